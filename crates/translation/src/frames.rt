@@ -1,0 +1,53 @@
+// A frame is an 11-bit number: start bit, eight data bits, odd parity bit, stop bit.
+ghost use mathlib.Core.Path.{_≡_};
+ghost use Rattle.translation.specs.Frames.{check, frame, verdict, ones};
+
+// What the frame check finds: a sound frame with its byte, a wrong parity bit, or a wrong start or stop bit.
+pub enum Verdict {
+    Sound(u8),
+    Parity,
+    Broken,
+}
+
+// How many of the bits 1-9 are ones: eleven bits fit sixteen, so no wider number is used.
+fn count_ones(f: u16) -> u16
+    ensures { λ r. ⌜ r ≡ ones f ⌝ }
+{
+    f / 2 % 2
+        + f / 4 % 2
+        + f / 8 % 2
+        + f / 16 % 2
+        + f / 32 % 2
+        + f / 64 % 2
+        + f / 128 % 2
+        + f / 256 % 2
+        + f / 512 % 2
+}
+
+// A number above 2047 is no frame, and is broken.
+pub fn judge(f: u16) -> Verdict
+    ensures { λ r. ⌜ verdict r ≡ check f ⌝ }
+{
+    if f % 2 == 1 {
+        return Verdict::Broken;
+    }
+    if f / 1024 % 2 == 0 {
+        return Verdict::Broken;
+    }
+    if 2047 < f {
+        return Verdict::Broken;
+    }
+    if count_ones(f) % 2 == 1 {
+        Verdict::Sound((f / 2 % 256) as u8)
+    } else {
+        Verdict::Parity
+    }
+}
+
+// The frame of a byte.
+pub fn framed(byte: u8) -> u16
+    ensures { λ r. ⌜ r ≡ frame byte ⌝ }
+{
+    let data = 2 * (byte as u16);
+    data + 512 * (1 - count_ones(data) % 2) + 1024
+}

@@ -1,0 +1,3 @@
+// Frames and scan codes of the PS/2 wire: it knows nothing of a controller.
+pub mod frames;
+pub mod scan_codes;
