@@ -1,0 +1,57 @@
+-- Numbers that are bytes or half bytes: the lines of a port, the mode byte with a bit changed, the cells of a RAM.
+-- Assumes nothing.
+use Prim.Native.Nat.{ℕ, zero, suc, _<_, _≤_}
+use mathlib.Core.Path.{_≡_, refl}
+use mathlib.Core.Bool.{Bool, true, false, not}
+use mathlib.Core.List.{List, [], _∷_}
+use native.Mathlib.Omega.{arith}
+use lib.ListN.{getD, set, replicate}
+use Rattle.machine.specs.State.{Public}
+use Rattle.machine.specs.Lines.{weight, setBit, clearBit, nibble, mouseOff, keyboardOff, keyboardRequest, mouseRequest, outputPort}
+use Rattle.machine.specs.Commands.{testInputs}
+
+-- ---- weight, nibble
+pub weight-le : (w : ℕ) (b : Bool) → weight w b ≤ w
+weight-le w true = omega arith
+weight-le w false = omega arith
+
+pub nibble-below : (a b c d : Bool) → nibble a b c d < 16
+unfolding nibble
+nibble-below a b c d = omega (arith, weight-le 1 a, weight-le 2 b, weight-le 4 c, weight-le 8 d)
+
+-- ---- outputPort, testInputs
+pub outputPort-below : (p : Public) → outputPort p < 256
+unfolding outputPort
+outputPort-below p =
+    let low = nibble-below (p .ports .p20) (p .ports .p21) false (mouseOff p) in
+    let high = nibble-below (keyboardRequest p) (mouseRequest p) (keyboardOff p) false in
+    omega arith
+
+pub testInputs-below : (p : Public) → testInputs p < 256
+testInputs-below p = omega (arith, nibble-below (not (keyboardOff p)) (not (mouseOff p)) false false)
+
+-- ---- clearBit, setBit
+pub clearBit-below : (n k m : ℕ) → n < m → clearBit n k < m
+clearBit-below n k m h = omega arith
+
+pub setBit-2-below : (n : ℕ) → n < 128 → setBit n 2 < 128
+setBit-2-below n h = omega arith
+
+pub setBit-4-below : (n : ℕ) → n < 128 → setBit n 4 < 128
+setBit-4-below n h = omega arith
+
+pub setBit-5-below : (n : ℕ) → n < 128 → setBit n 5 < 128
+setBit-5-below n h = omega arith
+
+-- ---- getD
+pub getD-zeros : (n k : ℕ) → getD {A = ℕ} (replicate n 0) k 0 ≡ 0
+getD-zeros zero k = refl
+getD-zeros (suc n) zero = refl
+getD-zeros (suc n) (suc k) = getD-zeros n k
+
+pub getD-set-below : (l : List ℕ) (i v m : ℕ) → v < m → ((k : ℕ) → getD l k 0 < m) → (k : ℕ) → getD (set l i v) k 0 < m
+getD-set-below [] i v m new old k = old k
+getD-set-below (x ∷ l) zero v m new old zero = new
+getD-set-below (x ∷ l) zero v m new old (suc k) = old (suc k)
+getD-set-below (x ∷ l) (suc i) v m new old zero = old zero
+getD-set-below (x ∷ l) (suc i) v m new old (suc k) = getD-set-below l i v m new (λ j. old (suc j)) k

@@ -1,0 +1,103 @@
+-- "Events", kind 3, and "Commands": what a command byte written to port 64h does.
+use Prim.Native.Nat.{ℕ, _-_, _/_, _%_}
+use mathlib.Core.Bool.{Bool, true, false, cond, not, _&&_}
+use lib.Dec.{eqb, leb}
+use lib.ListN.{length}
+use Rattle.translation.specs.Bits.{has}
+use Rattle.machine.specs.State.{Public, Machine, withHost, withLocked, lift}
+use Rattle.machine.specs.Lines.{put, putCell, cellOf, mode, withMode, setBit, clearBit, outputPort, keyboardOff, mouseOff, keyboardDisabled, keyboardEnabled, mouseDisabled, mouseEnabled, nibble}
+use Rattle.machine.specs.DataPort.{dropped}
+
+abbrev pub within : ℕ → ℕ → ℕ → Bool
+within low high c = leb low c && leb c high
+
+-- The pending code that a command leaves.
+unfoldable pub pendingOf : ℕ → ℕ
+pendingOf c =
+    cond (eqb c 0x60) 1
+    (cond (within 0x61 0x7F c) 2
+    (cond (eqb c 0xA5) 3
+    (cond (eqb c 0xD1) 4 (cond (eqb c 0xD2) 5 (cond (eqb c 0xD3) 6 (cond (eqb c 0xD4) 7 0))))))
+
+-- the cell that 61h-7Fh name
+abbrev pub cellNamed : ℕ → ℕ
+cellNamed c = cond (within 0x61 0x7F c) (c - 0x60) 0
+
+-- Before any command acts: C is 1, the overlay ends, and the pending code is the command's own.
+abbrev pub commandWritten : ℕ → Public → Public
+commandWritten c p =
+    withHost p (record { command = true; pending = pendingOf c; cell = cellNamed c; overlay = false; nibble = 0 })
+
+-- a load that a command cuts short leaves no code
+unfoldable pub loadCut : Machine → Machine
+loadCut m = cond (eqb (m .plain .host .pending) 3) (dropped m) m
+
+-- bits 4-7 of the status are replaced by this nibble
+abbrev pub overlaid : ℕ → Public → Public
+overlaid n p =
+    withHost p
+    (record { command = p .host .command; pending = p .host .pending; cell = p .host .cell; overlay = true; nibble = n })
+
+-- the self-test: both devices on, SYS set, 55h
+abbrev pub selfTested : Public → Public
+selfTested p = put 0x55 (withMode (setBit (clearBit (clearBit (mode p) 4) 5) 2) p)
+
+-- the test inputs: bit 0 keyboard not off, bit 1 mouse not off
+abbrev pub testInputs : Public → ℕ
+testInputs p = nibble (not (keyboardOff p)) (not (mouseOff p)) false false
+
+abbrev pub testInputsPut : Public → Public
+testInputsPut p = put (testInputs p) p
+
+-- the output port as it was before this byte is put
+abbrev pub outputPortPut : Public → Public
+outputPortPut p = put (outputPort p) p
+
+abbrev pub namedCellPut : ℕ → Public → Public
+namedCellPut k p = put (cellOf p k) p
+
+-- Commands that concern the public part alone.
+unfoldable pub plainCommand : ℕ → Public → Public
+plainCommand c p =
+    cond (within 0x20 0x3F c) (namedCellPut (c - 0x20) p)
+    (cond (eqb c 0xA7) (mouseDisabled p)
+    (cond (eqb c 0xA8) (mouseEnabled p)
+    (cond (eqb c 0xA9) (put 0 p)
+    (cond (eqb c 0xAA) (selfTested p)
+    (cond (eqb c 0xAB) (put 0 p)
+    (cond (eqb c 0xAD) (keyboardDisabled p)
+    (cond (eqb c 0xAE) (keyboardEnabled p)
+    (cond (eqb c 0xC0) (put (p .ports .pins) p)
+    (cond (eqb c 0xC1) (overlaid (p .ports .pins % 16) p)
+    (cond (eqb c 0xC2) (overlaid (p .ports .pins / 16) p)
+    (cond (eqb c 0xD0) (outputPortPut p)
+    (cond (eqb c 0xE0) (testInputsPut p) p))))))))))))
+
+-- a lock code has been loaded
+abbrev pub hasCode : Machine → Bool
+hasCode m = not (eqb (length (m .secret .code)) 0)
+
+-- A4h: FAh with a code, F1h without
+unfoldable pub codeAsked : Machine → Machine
+codeAsked m = cond (hasCode m) (lift (put 0xFA) m) (lift (put 0xF1) m)
+
+abbrev pub closed : Machine → Machine
+closed m = record { plain = withLocked (m .plain) true; secret = record { code = m .secret .code; position = 0 } }
+
+-- A6h: with a code, locked, nothing typed yet, and cell 13h put unless it is 0
+unfoldable pub lockedUp : Machine → Machine
+lockedUp m = cond (hasCode m) (lift (putCell 0x13) (closed m)) m
+
+-- A4h asks for the code, A5h drops it, A6h locks.
+unfoldable pub acts : ℕ → Machine → Machine
+acts c m =
+    cond (eqb c 0xA4) (codeAsked m)
+    (cond (eqb c 0xA5) (dropped m) (cond (eqb c 0xA6) (lockedUp m) (lift (plainCommand c) m)))
+
+-- Kind 3.
+unfoldable pub writeCommand : ℕ → Machine → Machine
+writeCommand c m = acts c (lift (commandWritten c) (loadCut m))
+
+-- F0h-FFh pulse P20 where bit 0 is 0 and P21 where bit 1 is 0: a mask of the lines of P2.
+unfoldable pub pulseOf : ℕ → ℕ
+pulseOf c = cond (leb 0xF0 c) (nibble (not (has c 0)) (not (has c 1)) false false) 0

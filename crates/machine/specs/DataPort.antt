@@ -1,0 +1,66 @@
+-- "Events", kind 1, and "Commands": what a byte written to port 60h does under each pending code.
+use Prim.Native.Nat.{ℕ, _%_}
+use mathlib.Core.Bool.{Bool, true, false, cond}
+use mathlib.Core.List.{List, [], _∷_, _++_}
+use lib.ListN.{length, set}
+use lib.Dec.{eqb, leb}
+use Rattle.translation.specs.Bits.{has}
+use Rattle.machine.specs.State.{Public, Host, Machine, withHost, withPorts, withRam, withSending, lift, withSecret}
+use Rattle.machine.specs.Lines.{put, putMouse, withMode, keyboardEnabled}
+
+-- no pending code
+abbrev pub settled : Public → Public
+settled p =
+    withHost p
+    (record { command = p .host .command; pending = 0; cell = 0; overlay = p .host .overlay; nibble = p .host .nibble })
+
+-- C becomes 0
+abbrev pub dataWritten : Public → Public
+dataWritten p =
+    withHost p
+    (record { command = false; pending = p .host .pending; cell = p .host .cell; overlay = p .host .overlay; nibble = p .host .nibble })
+
+-- a byte handed to the transmitter
+abbrev pub send : ℕ → ℕ → Public → Public
+send to v p = withSending p (record { to = to; byte = v })
+
+-- code 0: sent to the keyboard, which is no longer off
+abbrev pub sendKeyboard : ℕ → Public → Public
+sendKeyboard v p = send 1 v (keyboardEnabled p)
+
+-- code 4: bits 0 and 1 to the latches
+abbrev pub latched : ℕ → Public → Public
+latched v p = withPorts p (record { pins = p .ports .pins; p20 = has v 0; p21 = has v 1 })
+
+-- code 2: to the cell that the command named
+abbrev pub cellWritten : ℕ → Public → Public
+cellWritten v p = withRam p (set (p .ram) (p .host .cell) v)
+
+-- What a data byte does under each pending code but 3. Code 1 writes the mode byte, less bit 7; 5 and 6 put; 7 sends to the mouse.
+unfoldable pub plainData : ℕ → Public → Public
+plainData v p =
+    cond (eqb (p .host .pending) 1) (withMode (v % 0x80) p)
+    (cond (eqb (p .host .pending) 2) (cellWritten v p)
+    (cond (eqb (p .host .pending) 4) (latched v p)
+    (cond (eqb (p .host .pending) 5) (put v p)
+    (cond (eqb (p .host .pending) 6) (putMouse v p)
+    (cond (eqb (p .host .pending) 7) (send 2 v p) (sendKeyboard v p))))))
+
+-- no lock code
+abbrev pub dropped : Machine → Machine
+dropped m = withSecret m (record { code = []; position = m .secret .position })
+
+abbrev pub appended : ℕ → Machine → Machine
+appended v m = withSecret m (record { code = m .secret .code ++ (v ∷ []); position = m .secret .position })
+
+-- Code 3, a load: bytes are appended until 00h ends it; a 17th ends it with no code.
+unfoldable pub loadByte : ℕ → Machine → Machine
+loadByte v m =
+    cond (eqb v 0) (lift settled m)
+    (cond (leb 16 (length (m .secret .code))) (dropped (lift settled m)) (appended v m))
+
+-- Kind 1: C is 0, the pending code says what the byte does, and then is none, except during a load.
+unfoldable pub writeData : ℕ → Machine → Machine
+writeData v m =
+    cond (eqb (m .plain .host .pending) 3) (loadByte v (lift dataWritten m))
+    (lift settled (lift (plainData v) (lift dataWritten m)))

@@ -1,0 +1,104 @@
+-- "Events", kinds 4 to 8: what arrives from the keyboard, the mouse and the wire, and a try at the lock.
+use Prim.Native.Nat.{ℕ, _+_}
+use mathlib.Core.Bool.{Bool, true, false, cond, not, _&&_, _||_}
+use lib.ListN.{length, getD}
+use lib.Dec.{eqb, ltb}
+use Rattle.translation.specs.Bits.{has}
+use Rattle.translation.specs.Frames.{Check, sound, parity, broken, check}
+use Rattle.translation.specs.ScanCodes.{Translation, Yielded, nothing, byte, translate, raw, builtIn}
+use Rattle.machine.specs.State.{Public, Machine, withErrors, withPorts, withBreaks, withLocked, lift, withSecret}
+use Rattle.machine.specs.Lines.{put, putMouse, putCell, cellOf, inhibited, translates}
+use Rattle.machine.specs.DataPort.{send}
+
+-- The error bits after a frame: a broken one sets TERR, a wrong parity PERR, and the other is cleared.
+abbrev pub judged : Bool → Bool → Public → Public
+judged t e p = withErrors p (record { timeout = t; parity = e })
+
+abbrev pub positioned : ℕ → Machine → Machine
+positioned k m = withSecret m (record { code = m .secret .code; position = k })
+
+-- FFh for a damaged keyboard frame, unless locked or inhibited
+unfoldable pub keyError : Public → Public
+keyError p = cond (p .locked || inhibited p) p (put 0xFF p)
+
+-- the break flag, as the frame leaves it
+abbrev pub breaking : Bool → Public → Public
+breaking b p = withBreaks p b
+
+-- A damaged keyboard frame clears the break flag and the position.
+abbrev pub damagedKey : Bool → Bool → Machine → Machine
+damagedKey t e m = positioned 0 (lift keyError (lift (breaking false) (lift (judged t e) m)))
+
+-- A byte that is no key of a code: a break code, or one that cell 16h or 17h names.
+abbrev pub ignored : ℕ → Public → Bool
+ignored x p = has x 7 || (eqb x (cellOf p 0x16) || eqb x (cellOf p 0x17))
+
+-- the code's byte at the position
+abbrev pub matches : ℕ → Machine → Bool
+matches x m = ltb (m .secret .position) (length (m .secret .code)) && eqb x (getD (m .secret .code) (m .secret .position) 0)
+
+-- the byte at the position is the code's last
+abbrev pub completes : Machine → Bool
+completes m = eqb (m .secret .position + 1) (length (m .secret .code))
+
+-- the lock opens, and cell 14h is put unless it is 0
+abbrev pub opened : Machine → Machine
+opened m = record { plain = withLocked (m .plain) false; secret = record { code = m .secret .code; position = 0 } }
+
+abbrev pub unlocked : Machine → Machine
+unlocked m = lift (putCell 0x14) (opened m)
+
+-- one key further: the lock opens at the code's end
+unfoldable pub advanced : Machine → Machine
+advanced m = cond (completes m) (unlocked m) (positioned (m .secret .position + 1) m)
+
+-- A key while locked, the paper's try.
+unfoldable pub try : ℕ → Machine → Machine
+try x m = cond (ignored x (m .plain)) m (cond (matches x m) (advanced m) (positioned 0 m))
+
+-- A byte that the translation yielded: the key lock swallows it, locked it is a try, else it is put.
+unfoldable pub keyedByte : ℕ → Machine → Machine
+keyedByte x m = cond (inhibited (m .plain)) m (cond (m .plain .locked) (try x m) (lift (put x) m))
+
+unfoldable pub keyed : Yielded → Machine → Machine
+keyed nothing m = m
+keyed (byte x) m = keyedByte x m
+
+-- A sound keyboard frame clears both errors; its byte is translated if mode bit 6 is set or it is locked.
+unfoldable pub translated : ℕ → Public → Translation
+translated b p = cond (translates p || p .locked) (translate builtIn b (p .breaks)) (raw b)
+
+unfoldable pub soundKey : ℕ → Machine → Machine
+soundKey b m =
+    let t = translated b (m .plain) in
+    keyed (t .yields) (lift (breaking (t .breaks)) (lift (judged false false) m))
+
+unfoldable pub keyboardFrame : Check → Machine → Machine
+keyboardFrame (sound b) m = soundKey b m
+keyboardFrame parity m = damagedKey false true m
+keyboardFrame broken m = damagedKey true false m
+
+-- A mouse frame sets the errors likewise; its byte, or FFh for a damaged one, is put unless locked.
+unfoldable pub mousePut : ℕ → Public → Public
+mousePut b p = cond (p .locked) p (putMouse b p)
+
+unfoldable pub mouseFrame : Check → Public → Public
+mouseFrame (sound b) p = mousePut b (judged false false p)
+mouseFrame parity p = mousePut 0xFF (judged false true p)
+mouseFrame broken p = mousePut 0xFF (judged true false p)
+
+-- nothing is being sent any more
+abbrev pub idle : Public → Public
+idle p = send 0 0 p
+
+-- Kind 6: the device took the byte.
+abbrev pub taken : Public → Public
+taken p = judged false false (idle p)
+
+-- Kind 7: it did not: FEh is put with the source of the device that was sent to.
+unfoldable pub timedOut : Public → Public
+timedOut p = cond (eqb (p .sending .to) 2) (putMouse 0xFE (judged true false (idle p))) (put 0xFE (judged true false (idle p)))
+
+-- Kind 8: P1 is the value.
+abbrev pub pinned : ℕ → Public → Public
+pinned v p = withPorts p (record { pins = v; p20 = p .ports .p20; p21 = p .ports .p21 })

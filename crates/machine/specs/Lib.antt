@@ -1,0 +1,9 @@
+pub mod State
+pub mod Lines
+pub mod DataPort
+pub mod Commands
+pub mod Frames
+pub mod Events
+pub mod Run
+pub mod Kept
+pub mod View

@@ -1,0 +1,112 @@
+-- "State and lines", what the state shows on the lines: the mode byte's bits, status, the output port P2, and a byte put for the host.
+use Prim.Native.Nat.{ℕ, _+_, _-_, _*_, _^_, _%_}
+use mathlib.Core.Bool.{Bool, true, false, cond, not, _&&_}
+use lib.ListN.{getD, set}
+use lib.Dec.{eqb}
+use Rattle.translation.specs.Bits.{bit, has}
+use Rattle.machine.specs.State.{Public, Output, withOutput, withRam}
+
+-- w where the line is set, else 0
+abbrev pub weight : ℕ → Bool → ℕ
+weight w b = cond b w 0
+
+-- bit k of n set or cleared
+abbrev pub setBit : ℕ → ℕ → ℕ
+setBit n k = n - bit n k * 2 ^ k + 2 ^ k
+
+abbrev pub clearBit : ℕ → ℕ → ℕ
+clearBit n k = n - bit n k * 2 ^ k
+
+-- a cell of the RAM; cell 0 is the mode byte
+abbrev pub cellOf : Public → ℕ → ℕ
+cellOf p k = getD (p .ram) k 0
+
+abbrev pub mode : Public → ℕ
+mode p = cellOf p 0
+
+abbrev pub withMode : ℕ → Public → Public
+withMode v p = withRam p (set (p .ram) 0 v)
+
+-- The mode byte: bit 0 EKI, 1 EMI, 2 SYS, 3 inhibit override, 4 keyboard off, 5 mouse off, 6 translate.
+abbrev pub keyboardInterrupt : Public → Bool
+keyboardInterrupt p = has (mode p) 0
+
+abbrev pub mouseInterrupt : Public → Bool
+mouseInterrupt p = has (mode p) 1
+
+abbrev pub system : Public → Bool
+system p = has (mode p) 2
+
+abbrev pub override : Public → Bool
+override p = has (mode p) 3
+
+abbrev pub keyboardOff : Public → Bool
+keyboardOff p = has (mode p) 4
+
+abbrev pub mouseOff : Public → Bool
+mouseOff p = has (mode p) 5
+
+abbrev pub translates : Public → Bool
+translates p = has (mode p) 6
+
+-- a device switched off or on
+abbrev pub keyboardDisabled : Public → Public
+keyboardDisabled p = withMode (setBit (mode p) 4) p
+
+abbrev pub keyboardEnabled : Public → Public
+keyboardEnabled p = withMode (clearBit (mode p) 4) p
+
+abbrev pub mouseDisabled : Public → Public
+mouseDisabled p = withMode (setBit (mode p) 5) p
+
+abbrev pub mouseEnabled : Public → Public
+mouseEnabled p = withMode (clearBit (mode p) 5) p
+
+-- Input buffer full (IBF): a byte is being sent to a device.
+abbrev pub inputFull : Public → Bool
+inputFull p = not (eqb (p .sending .to) 0)
+
+-- P1 bit 7, the key lock: 0 keeps the keyboard from the host, unless overridden.
+abbrev pub keySwitch : Public → Bool
+keySwitch p = has (p .ports .pins) 7
+
+abbrev pub inhibited : Public → Bool
+inhibited p = not (keySwitch p) && not (override p)
+
+-- four lines as a number, the first the lowest
+unfoldable pub nibble : Bool → Bool → Bool → Bool → ℕ
+nibble a b c d = weight 1 a + weight 2 b + weight 4 c + weight 8 d
+
+-- Status bits 4-7: P1 bit 7, OBF with mouse source, TERR, PERR; or the overlay's nibble.
+unfoldable pub highNibble : Public → ℕ
+highNibble p =
+    cond (p .host .overlay) (p .host .nibble % 16)
+    (nibble (keySwitch p) (p .output .full && p .output .mouse) (p .errors .timeout) (p .errors .parity))
+
+-- Status: bit 0 OBF, 1 IBF, 2 SYS, 3 C, and bits 4-7.
+unfoldable pub status : Public → ℕ
+status p = nibble (p .output .full) (inputFull p) (system p) (p .host .command) + 16 * highNibble p
+
+-- KIRQ and MIRQ: a full buffer from that device, while its interrupt is enabled.
+abbrev pub keyboardRequest : Public → Bool
+keyboardRequest p = p .output .full && (not (p .output .mouse) && keyboardInterrupt p)
+
+abbrev pub mouseRequest : Public → Bool
+mouseRequest p = p .output .full && (p .output .mouse && mouseInterrupt p)
+
+-- P2: bits 0 and 1 latches, 3 mouse off, 4 KIRQ, 5 MIRQ, 6 keyboard off; 2 and 7 are 0.
+unfoldable pub outputPort : Public → ℕ
+outputPort p =
+    nibble (p .ports .p20) (p .ports .p21) false (mouseOff p)
+    + 16 * nibble (keyboardRequest p) (mouseRequest p) (keyboardOff p) false
+
+-- To put a byte: it becomes the output byte, and an older one is lost.
+abbrev pub put : ℕ → Public → Public
+put b p = withOutput p (record { byte = b; full = true; mouse = false })
+
+abbrev pub putMouse : ℕ → Public → Public
+putMouse b p = withOutput p (record { byte = b; full = true; mouse = true })
+
+-- a cell put, unless it is 0
+unfoldable pub putCell : ℕ → Public → Public
+putCell k p = cond (eqb (cellOf p k) 0) p (put (cellOf p k) p)

@@ -1,0 +1,104 @@
+-- "State and lines", the state. What the host and the devices can learn of is public; the lock code and how far it has been typed are secret.
+use Prim.Native.Nat.{ℕ}
+use mathlib.Core.Bool.{Bool, true, false}
+use mathlib.Core.List.{List, [], _∷_}
+use lib.ListN.{replicate}
+
+-- The output buffer: its byte, output buffer full (OBF), and whether the byte came from the mouse; with OBF 0 the source is the keyboard.
+pub record Output : Type 0 where
+  pub byte : ℕ
+  pub full : Bool
+  pub mouse : Bool
+
+-- The error bits: TERR, a broken frame or a transmit time-out, and PERR, a parity error.
+pub record Errors : Type 0 where
+  pub timeout : Bool
+  pub parity : Bool
+
+-- What the host wrote: the command flag C, the pending code, the RAM cell of code 2, and the status overlay.
+pub record Host : Type 0 where
+  pub command : Bool
+  pub pending : ℕ
+  pub cell : ℕ
+  pub overlay : Bool
+  pub nibble : ℕ
+
+-- Input port pins P1, and the latches of output port lines P20 and P21.
+pub record Ports : Type 0 where
+  pub pins : ℕ
+  pub p20 : Bool
+  pub p21 : Bool
+
+-- The transmitter: whom a byte is being sent to (0 nobody, 1 keyboard, 2 mouse), and the byte.
+pub record Sending : Type 0 where
+  pub to : ℕ
+  pub byte : ℕ
+
+-- `breaks` is the break flag of the scan code translation. Cell 0 of the RAM is the mode byte, the field's command byte.
+pub record Public : Type 0 where
+  pub output : Output
+  pub errors : Errors
+  pub host : Host
+  pub ports : Ports
+  pub sending : Sending
+  pub breaks : Bool
+  pub locked : Bool
+  pub ram : List ℕ
+
+-- The lock code, the paper's password, and the position: how many of its bytes have been typed.
+pub record Secret : Type 0 where
+  pub code : List ℕ
+  pub position : ℕ
+
+pub record Machine : Type 0 where
+  pub plain : Public
+  pub secret : Secret
+
+-- one part replaced
+abbrev pub withOutput : Public → Output → Public
+withOutput p x = record { output = x; errors = p .errors; host = p .host; ports = p .ports; sending = p .sending; breaks = p .breaks; locked = p .locked; ram = p .ram }
+
+abbrev pub withErrors : Public → Errors → Public
+withErrors p x = record { output = p .output; errors = x; host = p .host; ports = p .ports; sending = p .sending; breaks = p .breaks; locked = p .locked; ram = p .ram }
+
+abbrev pub withHost : Public → Host → Public
+withHost p x = record { output = p .output; errors = p .errors; host = x; ports = p .ports; sending = p .sending; breaks = p .breaks; locked = p .locked; ram = p .ram }
+
+abbrev pub withPorts : Public → Ports → Public
+withPorts p x = record { output = p .output; errors = p .errors; host = p .host; ports = x; sending = p .sending; breaks = p .breaks; locked = p .locked; ram = p .ram }
+
+abbrev pub withSending : Public → Sending → Public
+withSending p x = record { output = p .output; errors = p .errors; host = p .host; ports = p .ports; sending = x; breaks = p .breaks; locked = p .locked; ram = p .ram }
+
+abbrev pub withBreaks : Public → Bool → Public
+withBreaks p x = record { output = p .output; errors = p .errors; host = p .host; ports = p .ports; sending = p .sending; breaks = x; locked = p .locked; ram = p .ram }
+
+abbrev pub withLocked : Public → Bool → Public
+withLocked p x = record { output = p .output; errors = p .errors; host = p .host; ports = p .ports; sending = p .sending; breaks = p .breaks; locked = x; ram = p .ram }
+
+abbrev pub withRam : Public → List ℕ → Public
+withRam p x = record { output = p .output; errors = p .errors; host = p .host; ports = p .ports; sending = p .sending; breaks = p .breaks; locked = p .locked; ram = x }
+
+-- a rule of the public part, said of the whole machine
+abbrev pub lift : (Public → Public) → Machine → Machine
+lift f m = record { plain = f (m .plain); secret = m .secret }
+
+abbrev pub withSecret : Machine → Secret → Machine
+withSecret m x = record { plain = m .plain; secret = x }
+
+-- Fresh: P1 FFh, both latches 1, the mode byte 70h, all else 0 or none.
+unfoldable pub fresh : Machine
+fresh =
+    record {
+      plain = record {
+        output = record { byte = 0; full = false; mouse = false };
+        errors = record { timeout = false; parity = false };
+        host = record { command = false; pending = 0; cell = 0; overlay = false; nibble = 0 };
+        ports = record { pins = 0xFF; p20 = true; p21 = true };
+        sending = record { to = 0; byte = 0 };
+        breaks = false;
+        locked = false;
+        ram = 0x70 ∷ replicate 31 0;
+      };
+      secret = record { code = []; position = 0 };
+    }

@@ -1,0 +1,2 @@
+// The 8042 keyboard controller in PS/2 mode: the definitions of the machine, and the state that stands for it.
+pub mod state;

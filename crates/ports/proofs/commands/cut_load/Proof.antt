@@ -1,0 +1,20 @@
+use borrow.Author.Needs.{needs}
+use mathlib.Core.Path.{_≡_, ap, sym, _∙_}
+use borrow.Author.Tests.{eq-eqb, ne-eqb}
+use Rattle.machine.specs.Commands.{loadCut}
+use Rattle.ports.proofs.commands.cut_load.Statement.{statement}
+use Rattle.ports.proofs.commands.cut_load.Tie as tie
+
+drop-code-requires : tie.Need-drop-code-requires
+drop-code-requires c κs = search needs
+
+returns : tie.Need-returns
+unfolding loadCut
+returns c = c .drop-code .ensures ∙ simp (eq-eqb _ _ (c .before .if1 .taken))
+
+returns-2 : tie.Need-returns-2
+unfolding loadCut
+returns-2 c = simp (ne-eqb _ _ (c .if1 .left))
+
+pub cut-load-spec : {M : Type 1} → statement M
+cut-load-spec = tie.close (tie.spec drop-code-requires returns returns-2)

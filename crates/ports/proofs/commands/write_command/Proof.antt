@@ -1,0 +1,23 @@
+use borrow.Author.Needs.{needs}
+use mathlib.Core.Path.{_≡_, ap, sym, _∙_}
+use Rattle.machine.specs.State.{lift}
+use Rattle.machine.specs.Commands.{writeCommand, acts, commandWritten}
+use Rattle.ports.proofs.commands.write_command.Statement.{statement}
+use Rattle.ports.proofs.commands.write_command.Tie as tie
+
+cut-load-requires : tie.Need-cut-load-requires
+cut-load-requires c κs = search needs
+
+command-written-requires : tie.Need-command-written-requires
+command-written-requires c κs = search needs
+
+act-requires : tie.Need-act-requires
+act-requires c κs = search needs
+
+returns : tie.Need-returns
+unfolding writeCommand
+returns c = c .act .ensures ∙ ap (acts _) (c .before .command-written .ensures ∙ ap (lift (commandWritten _)) (c .before .before .cut-load .ensures))
+
+pub write-command-spec : {M : Type 1} → statement M
+write-command-spec =
+    tie.close (tie.spec cut-load-requires command-written-requires act-requires returns)

@@ -1,0 +1,21 @@
+use borrow.Author.Needs.{needs}
+use Rattle.ports.proofs.lines.enable_keyboard.Statement.{statement}
+use Rattle.ports.proofs.lines.enable_keyboard.Tie as tie
+
+mode-requires : tie.Need-mode-requires
+mode-requires c κs = search needs
+
+mul-s : tie.Need-mul-s
+mul-s c = search needs
+
+sub-s : tie.Need-sub-s
+sub-s c = search needs
+
+element-write-s : tie.Need-element-write-s
+element-write-s c = search needs
+
+returns : tie.Need-returns
+returns c = simp (c .mode .ensures)
+
+pub enable-keyboard-spec : {M : Type 1} → statement M
+enable-keyboard-spec = tie.close (tie.spec mode-requires mul-s sub-s element-write-s returns)
