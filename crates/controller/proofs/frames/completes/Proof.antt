@@ -1,0 +1,15 @@
+use borrow.Author.Needs.{needs}
+use Rattle.controller.proofs.frames.completes.Statement.{statement}
+use Rattle.controller.proofs.frames.completes.Tie as tie
+
+add-result : tie.Need-add-result
+add-result c = search needs
+
+code-length-requires : tie.Need-code-length-requires
+code-length-requires c κs = search needs
+
+returns : tie.Need-returns
+returns c = simp (c .code-length .ensures .0)
+
+pub completes-spec : {M : Type 1} → statement M
+completes-spec = tie.close (tie.spec add-result code-length-requires returns)

@@ -1,0 +1,19 @@
+use mathlib.Core.Path.{_≡_, ap, sym, _∙_}
+use mathlib.Core.Bool.{false}
+use Rattle.machine.specs.State.{lift}
+use Rattle.machine.specs.Frames.{judged}
+use borrow.Author.Needs.{needs}
+use Rattle.controller.proofs.frames.taken.Statement.{statement}
+use Rattle.controller.proofs.frames.taken.Tie as tie
+
+send-requires : tie.Need-send-requires
+send-requires c κs = search needs
+
+judged-requires : tie.Need-judged-requires
+judged-requires c κs = search needs
+
+returns : tie.Need-returns
+returns c = c .judged .ensures ∙ ap (lift (judged false false)) (c .before .send .ensures)
+
+pub taken-spec : {M : Type 1} → statement M
+taken-spec = tie.close (tie.spec send-requires judged-requires returns)

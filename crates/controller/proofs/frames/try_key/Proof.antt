@@ -1,0 +1,42 @@
+use mathlib.Core.Path.{_≡_, ap, sym, _∙_}
+use Rattle.machine.specs.Frames.{try}
+use borrow.Author.Needs.{needs}
+use Rattle.controller.proofs.frames.try_key.Statement.{statement}
+use Rattle.controller.proofs.frames.try_key.Tie as tie
+
+ignored-requires : tie.Need-ignored-requires
+ignored-requires c κs = search needs
+
+returns : tie.Need-returns
+unfolding try
+returns c = simp (sym (c .before .ignored .ensures) ∙ c .if1 .taken)
+
+matches-requires : tie.Need-matches-requires
+matches-requires c κs = search needs
+
+advance-requires : tie.Need-advance-requires
+unfolding try
+advance-requires c κs = c .before .matches .ensures .1 (c .if2 .taken)
+
+positioned-requires : tie.Need-positioned-requires
+positioned-requires c κs = search needs
+
+returns-2 : tie.Need-returns-2
+unfolding try
+returns-2 c = c .advance .ensures ∙ simp (sym (c .before .before .before .before .ignored .ensures) ∙ c .before .before .before .if1 .left, sym (c .before .before .matches .ensures .0) ∙ c .before .if2 .taken)
+
+returns-3 : tie.Need-returns-3
+unfolding try
+returns-3 c = c .positioned .ensures ∙ simp (sym (c .before .before .before .before .ignored .ensures) ∙ c .before .before .before .if1 .left, sym (c .before .before .matches .ensures .0) ∙ c .before .if2 .left)
+
+pub try-key-spec : {M : Type 1} → statement M
+try-key-spec =
+    tie.close
+    (tie.spec
+    ignored-requires
+    returns
+    matches-requires
+    advance-requires
+    positioned-requires
+    returns-2
+    returns-3)

@@ -1,0 +1,27 @@
+use borrow.Author.Tests.{eq-eqb, ne-eqb, lt-ltb, le-ltb}
+use Rattle.machine.specs.Run.{lengthRefusal}
+use borrow.Author.Needs.{needs}
+use Rattle.controller.proofs.run.list_refusal.Statement.{statement}
+use Rattle.controller.proofs.run.list_refusal.Tie as tie
+
+returns : tie.Need-returns
+unfolding lengthRefusal
+returns c = simp (ne-eqb _ _ (c .if1 .taken))
+
+returns-2 : tie.Need-returns-2
+unfolding lengthRefusal
+returns-2 c = simp (eq-eqb _ _ (c .before .if1 .left), lt-ltb _ _ (c .if2 .taken))
+
+mul-if3 : tie.Need-mul-if3
+mul-if3 c = search needs
+
+returns-3 : tie.Need-returns-3
+unfolding lengthRefusal
+returns-3 c = simp (eq-eqb _ _ (c .before .before .if1 .left), le-ltb _ _ (c .before .if2 .left), lt-ltb _ _ (c .if3 .taken))
+
+returns-4 : tie.Need-returns-4
+unfolding lengthRefusal
+returns-4 c = simp (eq-eqb _ _ (c .before .before .if1 .left), le-ltb _ _ (c .before .if2 .left), le-ltb _ _ (c .if3 .left))
+
+pub list-refusal-spec : {M : Type 1} → statement M
+list-refusal-spec = tie.close (tie.spec returns returns-2 mul-if3 returns-3 returns-4)

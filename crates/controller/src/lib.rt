@@ -1,0 +1,4 @@
+// The controller: what arrives from the devices, one event, and a list of events.
+pub mod events;
+pub mod frames;
+pub mod run;

@@ -1,0 +1,4 @@
+pub mod Alike
+pub mod Paired
+pub mod Compared
+mod Example

@@ -1,0 +1,49 @@
+-- "Two lists compared": the pairs of event lists that demand 3 is about, said of the machine alone.
+use Prim.Native.Nat.{ℕ, suc, _≤_, _<_}
+use mathlib.Core.Path.{_≡_}
+use mathlib.Core.Bool.{Bool, true, not, _&&_}
+use mathlib.Core.List.{List}
+use mathlib.Core.Option.{some}
+use lib.ListN.{length, take, getElem?}
+use Rattle.translation.specs.Frames.{check, sound}
+use Rattle.machine.specs.State.{Machine, fresh}
+use Rattle.machine.specs.Events.{Event, value}
+use Rattle.machine.specs.Run.{after}
+
+-- Event e stands at place k of the list.
+abbrev pub At : List Event → ℕ → Event → Type 0
+At es k e = getElem? es k ≡ some e
+
+-- What holds at place k: the machine that the events before it leave, from fresh on.
+abbrev pub before : List Event → ℕ → Machine
+before es k = after fresh (take k es)
+
+-- kind 1 with a value from 01h to FFh
+pub record CodeByte (e : Event) : Type 0 where
+  pub kind : e .kind ≡ 1
+  pub low : 0x01 ≤ value e
+  pub high : value e ≤ 0xFF
+
+-- kind 4 with a sound frame of a byte from 01h to 7Fh
+pub record Key (e : Event) : Type 0 where
+  pub kind : e .kind ≡ 4
+  pub byte : ℕ
+  pub frame : check (value e) ≡ sound byte
+  pub low : 0x01 ≤ byte
+  pub high : byte ≤ 0x7F
+
+-- The events of one place, m the machine before it: equal, or different in one of two cases, whether they are refused or not.
+pub data Allowed (m : Machine) (e f : Event) : Type 0 where
+  same : e ≡ f → Allowed m e f
+  loading : m .plain .host .pending ≡ 3 → CodeByte e → CodeByte f → Allowed m e f
+  trying : m .plain .locked ≡ true → Key e → Key f → Allowed m e f
+
+-- The lock opens at place k: locked before this list's own event there, and no longer locked after it.
+abbrev pub opens : List Event → ℕ → Bool
+opens es k = before es k .plain .locked && not (before es (suc k) .plain .locked)
+
+-- Paired lists have one length, whatever it is. The first says what holds at a place; each says itself where its lock opens.
+pub record Paired (es fs : List Event) : Type 0 where
+  pub lengths : length es ≡ length fs
+  pub differ : (k : ℕ) (e f : Event) → At es k e → At fs k f → Allowed (before es k) e f
+  pub openings : (k : ℕ) → k < length es → opens es k ≡ opens fs k

@@ -1,0 +1,31 @@
+// Two lists of events, each run from a fresh controller into a buffer of its own.
+use controller::run::run;
+use controller::run::run_rest;
+use machine::state::start;
+ghost use Rattle.secrecy.specs.Compared.{Compared, ComparedRest};
+
+// The refusal numbers of the two calls.
+pub struct Numbers {
+    pub first: u8,
+    pub second: u8,
+}
+
+// Each list by a whole call.
+pub fn run_both(one: &[u8], answers: &mut [u8], other: &[u8], others: &mut [u8]) -> Numbers
+    ensures { λ r. ⌜ Compared (now (one .entry)) (now (answers .entry)) (now (answers .exit)) (now (other .entry)) (now (others .entry)) (now (others .exit)) r ⌝ }
+{
+    let a = run(start(), one, answers);
+    let b = run(start(), other, others);
+    Numbers {
+        first: a.refusal,
+        second: b.refusal,
+    }
+}
+
+// Each list event by event, whatever its length.
+pub fn run_both_rest(one: &[u8], answers: &mut [u8], other: &[u8], others: &mut [u8])
+    ensures { λ _. ⌜ ComparedRest (now (one .entry)) (now (answers .entry)) (now (answers .exit)) (now (other .entry)) (now (others .entry)) (now (others .exit)) ⌝ }
+{
+    run_rest(start(), one, answers);
+    run_rest(start(), other, others);
+}
