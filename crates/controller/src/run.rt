@@ -1,11 +1,18 @@
 // A list of events: each writes its nine answer bytes and hands on the rest of the answer buffer.
 use crate::events::event;
 use machine::state::Controller;
+use machine::state::Errors;
+use machine::state::Host;
+use machine::state::Lock;
+use machine::state::Output;
+use machine::state::Ports;
+use machine::state::Sending;
 ghost use mathlib.Core.Path.{_≡_};
 ghost use mathlib.Core.List.{_++_};
 ghost use Prim.Native.Nat.{_≤_};
 ghost use lib.ListN.{length, drop};
 ghost use Rattle.machine.specs.Run.{lengthRefusal};
+ghost use Rattle.controller.specs.Small.{smallOf, joinedOf};
 ghost use Rattle.controller.specs.Done.{First, Went, Ran};
 
 // The refusal number of a call, 0 for none, and the state after it.
@@ -33,20 +40,98 @@ fn write_answer(answer: [u8; 9], answers: &mut [u8])
     answers[8] = answer[8];
 }
 
-// The first event of a list, and its answer at the front of the buffer.
-fn run_first(s: Controller, list: &[u8], answers: &mut [u8]) -> Controller
-    requires { ⌜ (3 ≤ length (now list)) × (9 ≤ length (now answers)) ⌝ }
-    ensures { λ r. ⌜ First s (now (list .entry)) (now (answers .entry)) r (now (answers .exit)) ⌝ }
+// The state without its arrays: a run lends those on, so that they are not copied at each event.
+struct Small {
+    output: Output,
+    errors: Errors,
+    host: Host,
+    ports: Ports,
+    sending: Sending,
+    breaks: bool,
+    locked: bool,
+    length: u8,
+    position: u8,
+}
+
+fn without_arrays(s: Controller) -> Small
+    ensures { λ r. ⌜ r ≡ smallOf s ⌝ }
 {
-    let outcome = event(s, list[0], list[1], list[2]);
+    let output = s.output;
+    let errors = s.errors;
+    let host = s.host;
+    let ports = s.ports;
+    let sending = s.sending;
+    Small {
+        output,
+        errors,
+        host,
+        ports,
+        sending,
+        breaks: s.breaks,
+        locked: s.lock.locked,
+        length: s.lock.length,
+        position: s.lock.position,
+    }
+}
+
+fn joined(s: Small, ram: [u8; 32], code: [u8; 16]) -> Controller
+    ensures { λ r. ⌜ r ≡ joinedOf s ram code ⌝ }
+{
+    let output = s.output;
+    let errors = s.errors;
+    let host = s.host;
+    let ports = s.ports;
+    let sending = s.sending;
+    let lock = Lock {
+        locked: s.locked,
+        length: s.length,
+        position: s.position,
+        code,
+    };
+    Controller {
+        output,
+        errors,
+        host,
+        ports,
+        sending,
+        breaks: s.breaks,
+        lock,
+        ram,
+    }
+}
+
+// The first event of a list, and its answer at the front of the buffer.
+fn run_first(
+    s: Small,
+    ram: &mut [u8; 32],
+    code: &mut [u8; 16],
+    list: &[u8],
+    answers: &mut [u8],
+) -> Small
+    requires { ⌜ (3 ≤ length (now list)) × (9 ≤ length (now answers)) ⌝ }
+    ensures { λ r. ⌜ First (joinedOf s (now (ram .entry)) (now (code .entry))) (now (list .entry)) (now (answers .entry)) (joinedOf r (now (ram .exit)) (now (code .exit))) (now (answers .exit)) ⌝ }
+{
+    let outcome = event(joined(s, *ram, *code), list[0], list[1], list[2]);
     let answer = outcome.answer;
     write_answer(answer, answers);
-    outcome.state
+    let next = outcome.state;
+    let cells = next.ram;
+    *ram = cells;
+    let lock = next.lock;
+    let bytes = lock.code;
+    *code = bytes;
+    without_arrays(next)
 }
 
 // A list of any length, as far as the buffer has room.
-pub fn run_rest(s: Controller, list: &[u8], answers: &mut [u8]) -> Controller
-    ensures { λ r. ⌜ Went s (now (list .entry)) (now (answers .entry)) r (now (answers .exit)) ⌝ }
+fn run_rest(
+    s: Small,
+    ram: &mut [u8; 32],
+    code: &mut [u8; 16],
+    list: &[u8],
+    answers: &mut [u8],
+) -> Small
+    ensures { λ r. ⌜ Went (joinedOf s (now (ram .entry)) (now (code .entry))) (now (list .entry)) (now (answers .entry)) (joinedOf r (now (ram .exit)) (now (code .exit))) (now (answers .exit)) ⌝ }
 {
     if list.len() < 3 {
         return s;
@@ -54,8 +139,19 @@ pub fn run_rest(s: Controller, list: &[u8], answers: &mut [u8]) -> Controller
     if answers.len() < 9 {
         return s;
     }
-    let next = run_first(s, list, answers);
-    run_rest(next, &list[3..], &mut answers[9..])
+    let next = run_first(s, ram, code, list, answers);
+    run_rest(next, ram, code, &list[3..], &mut answers[9..])
+}
+
+// The same from a whole state to a whole state.
+pub fn run_fitting(s: Controller, list: &[u8], answers: &mut [u8]) -> Controller
+    ensures { λ r. ⌜ Went s (now (list .entry)) (now (answers .entry)) r (now (answers .exit)) ⌝ }
+{
+    let mut ram = s.ram;
+    let lock = s.lock;
+    let mut code = lock.code;
+    let last = run_rest(without_arrays(s), &mut ram, &mut code, list, answers);
+    joined(last, ram, code)
 }
 
 // The checks of a whole call.
@@ -79,6 +175,6 @@ pub fn run(s: Controller, list: &[u8], answers: &mut [u8]) -> Answered
     if refusal != 0 {
         return Answered { refusal, state: s };
     }
-    let state = run_rest(s, list, answers);
+    let state = run_fitting(s, list, answers);
     Answered { refusal: 0, state }
 }

@@ -1,6 +1,6 @@
 // Two lists of events, each run from a fresh controller into a buffer of its own.
 use controller::run::run;
-use controller::run::run_rest;
+use controller::run::run_fitting;
 use machine::state::start;
 ghost use Rattle.secrecy.specs.Compared.{Compared, ComparedRest};
 
@@ -23,9 +23,9 @@ pub fn run_both(one: &[u8], answers: &mut [u8], other: &[u8], others: &mut [u8])
 }
 
 // Each list event by event, whatever its length.
-pub fn run_both_rest(one: &[u8], answers: &mut [u8], other: &[u8], others: &mut [u8])
+pub fn run_both_fitting(one: &[u8], answers: &mut [u8], other: &[u8], others: &mut [u8])
     ensures { λ _. ⌜ ComparedRest (now (one .entry)) (now (answers .entry)) (now (answers .exit)) (now (other .entry)) (now (others .entry)) (now (others .exit)) ⌝ }
 {
-    run_rest(start(), one, answers);
-    run_rest(start(), other, others);
+    run_fitting(start(), one, answers);
+    run_fitting(start(), other, others);
 }

@@ -12,8 +12,9 @@ use Rattle.machine.specs.Events.{Event, step, answer, reply, lines, refusal}
 use Rattle.machine.specs.Run.{events, first, after, answers, filled, fitting, lengthRefusal, listRefusal}
 use Rattle.machine.specs.Kept.{Kept}
 use Rattle.machine.specs.View.{view}
-use Rattle.controller.specs.Done.{First, Went, Ran}
+use Rattle.controller.specs.Done.{Done, First, Went, Ran}
 use Rattle.machine.specs.declared.state.Controller.{Controller}
+use Rattle.controller.specs.declared.events.Outcome.{Outcome}
 use Rattle.controller.specs.declared.run.Answered.{Answered}
 use Rattle.machine.proofs.Laws.Cond.{cond-both, cond-zero}
 use lib.Dec.{eqb, ltb}
@@ -86,6 +87,14 @@ part-all : (k : ℕ) (xs : List ℕ) → take (length xs - k) (drop k xs) ≡ dr
 part-all k xs = take-all (length xs - k) (drop k xs) (simp length-drop (omega arith))
 
 -- ---- Went
+pub first-of : (b j n : Controller) (list space : List ℕ) (o : Outcome) (space′ : List ℕ) → j ≡ b → Done j (first list) o → n ≡ o .state → space′ ≡ o .answer ++ drop 9 space → First b list space n space′
+first-of b j n list space o space′ start done state written =
+    record {
+      stepped = ap view state ∙ done .stepped ∙ ap (λ (k : Controller). step (view k) (first list)) start;
+      buffer = written ∙ ap (λ (xs : List ℕ). xs ++ drop 9 space) (done .answered ∙ ap (λ (k : Controller). answer (view k) (first list)) start);
+      kept = λ k. subst (λ (t : Controller). Kept (view t)) (sym state) (done .kept (subst (λ (t : Controller). Kept (view t)) (sym start) k));
+    }
+
 pub went-none : (s : Controller) (list space : List ℕ) → fitting list space ≡ [] → Went s list space s space
 unfolding after
 went-none s list space none =

@@ -1,8 +1,9 @@
-use mathlib.Core.Path.{_∙_}
-use borrow.Rule.Slice.PartMut.{same-len-mid}
 use borrow.Author.Needs.{needs}
+use mathlib.Core.Path.{_∙_}
 use native.Mathlib.Omega.{arith}
+use borrow.Rule.Slice.PartMut.{same-len-mid}
 use lib.ListN.{length, length-take, length-drop}
+use Rattle.controller.specs.Small.{joinedOf}
 use Rattle.controller.proofs.Laws.Run.{fitting-short, fitting-tight, went-none, went-more}
 use Prim.Native.Nat.{ℕ, _-_, _<_}
 use borrow.Fn.Kinds.{In}
@@ -14,16 +15,17 @@ use Rattle.controller.proofs.run.run_first.Reads as run-first-reads
 use Rattle.controller.proofs.run.+run_rest.{statement}
 use Rattle.controller.proofs.run.+run_rest.Tie.{close}
 
-abbrev μ-run-rest : Measures 2 run-rest-kinds.ps ℕ
-μ-run-rest κs a = length (a .1 .0 .now)
+abbrev μ-run-rest : Measures 4 run-rest-kinds.ps ℕ
+μ-run-rest κs a = length (a .1 .1 .1 .0 .now)
 
-abbrev run-rest-at : ℕ → In 2 run-rest-kinds.ps
-run-rest-at t = and 2 run-rest-kinds.ps (is 2 run-rest-kinds.ps μ-run-rest t) run-rest.Pre
+abbrev run-rest-at : ℕ → In 4 run-rest-kinds.ps
+run-rest-at t = and 4 run-rest-kinds.ps (is 4 run-rest-kinds.ps μ-run-rest t) run-rest.Pre
 
-abbrev run-rest-below : ℕ → In 2 run-rest-kinds.ps
+abbrev run-rest-below : ℕ → In 4 run-rest-kinds.ps
 run-rest-below t =
-    and 2 run-rest-kinds.ps (falls 2 run-rest-kinds.ps _<_ μ-run-rest t) run-rest.Pre
+    and 4 run-rest-kinds.ps (falls 4 run-rest-kinds.ps _<_ μ-run-rest t) run-rest.Pre
 
+-- src/run.rt:131:9
 run-rest-returns : (t : ℕ) → run-rest-lts.Need-returns (
   run-first-reads.Asked,
   run-first-reads.Learnt,
@@ -32,8 +34,9 @@ run-rest-returns : (t : ℕ) → run-rest-lts.Need-returns (
 ) (run-rest-at t) run-rest.Post
 run-rest-returns t c =
     let a = c .before .before .before .args in
-    went-none (a .s) (a .list .now) (a .answers .now) (fitting-short (a .list .now) (a .answers .now) (c .if1 .taken))
+    went-none (joinedOf (a .s) (a .ram .now) (a .code .now)) (a .list .now) (a .answers .now) (fitting-short (a .list .now) (a .answers .now) (c .if1 .taken))
 
+-- src/run.rt:134:9
 run-rest-returns-2 : (t : ℕ) → run-rest-lts.Need-returns-2 (
   run-first-reads.Asked,
   run-first-reads.Learnt,
@@ -42,8 +45,9 @@ run-rest-returns-2 : (t : ℕ) → run-rest-lts.Need-returns-2 (
 ) (run-rest-at t) run-rest.Post
 run-rest-returns-2 t c =
     let a = c .before .before .before .before .args in
-    went-none (a .s) (a .list .now) (a .answers .now) (fitting-tight (a .list .now) (a .answers .now) (c .if2 .taken))
+    went-none (joinedOf (a .s) (a .ram .now) (a .code .now)) (a .list .now) (a .answers .now) (fitting-tight (a .list .now) (a .answers .now) (c .if2 .taken))
 
+-- src/run.rt:136:9
 run-rest-run-first-requires : (t : ℕ) → run-rest-lts.Need-run-first-requires (
   run-first-reads.Asked,
   run-first-reads.Learnt,
@@ -52,6 +56,7 @@ run-rest-run-first-requires : (t : ℕ) → run-rest-lts.Need-run-first-requires
 ) (run-rest-at t) run-rest.Post
 run-rest-run-first-requires t c κs = search needs
 
+-- src/run.rt:137:31
 run-rest-sub-run-rest : (t : ℕ) → run-rest-lts.Need-sub-run-rest (
   run-first-reads.Asked,
   run-first-reads.Learnt,
@@ -60,6 +65,7 @@ run-rest-sub-run-rest : (t : ℕ) → run-rest-lts.Need-sub-run-rest (
 ) (run-rest-at t) run-rest.Post
 run-rest-sub-run-rest t c = search needs
 
+-- src/run.rt:137:31
 run-rest-part-run-rest-start : (t : ℕ) → run-rest-lts.Need-part-run-rest-start (
   run-first-reads.Asked,
   run-first-reads.Learnt,
@@ -68,6 +74,7 @@ run-rest-part-run-rest-start : (t : ℕ) → run-rest-lts.Need-part-run-rest-sta
 ) (run-rest-at t) run-rest.Post
 run-rest-part-run-rest-start t c = search needs
 
+-- src/run.rt:137:31
 run-rest-part-run-rest-end : (t : ℕ) → run-rest-lts.Need-part-run-rest-end (
   run-first-reads.Asked,
   run-first-reads.Learnt,
@@ -76,22 +83,25 @@ run-rest-part-run-rest-end : (t : ℕ) → run-rest-lts.Need-part-run-rest-end (
 ) (run-rest-at t) run-rest.Post
 run-rest-part-run-rest-end t c = search needs
 
+-- src/run.rt:137:43
 run-rest-sub-run-rest-2 : (t : ℕ) → run-rest-lts.Need-sub-run-rest-2 (
   run-first-reads.Asked,
   run-first-reads.Learnt,
   run-rest-below t,
   run-rest.Post,
 ) (run-rest-at t) run-rest.Post
-run-rest-sub-run-rest-2 t c = omega (arith, c .before .before .before .run-first .kept .1 .1 .0, c .before .before .before .before .before .if2 .left)
+run-rest-sub-run-rest-2 t c = omega (arith, c .before .before .before .before .before .run-first .kept .1 .1 .1 .1 .0, c .before .before .before .before .before .before .before .before .before .if2 .left)
 
+-- src/run.rt:137:43
 run-rest-part-run-rest-start-2 : (t : ℕ) → run-rest-lts.Need-part-run-rest-start-2 (
   run-first-reads.Asked,
   run-first-reads.Learnt,
   run-rest-below t,
   run-rest.Post,
 ) (run-rest-at t) run-rest.Post
-run-rest-part-run-rest-start-2 t c = omega (arith, c .before .before .before .run-first .kept .1 .1 .0, c .before .before .before .before .before .if2 .left)
+run-rest-part-run-rest-start-2 t c = omega (arith, c .before .before .before .before .before .run-first .kept .1 .1 .1 .1 .0, c .before .before .before .before .before .before .before .before .before .if2 .left)
 
+-- src/run.rt:137:43
 run-rest-part-run-rest-end-2 : (t : ℕ) → run-rest-lts.Need-part-run-rest-end-2 (
   run-first-reads.Asked,
   run-first-reads.Learnt,
@@ -100,14 +110,16 @@ run-rest-part-run-rest-end-2 : (t : ℕ) → run-rest-lts.Need-part-run-rest-end
 ) (run-rest-at t) run-rest.Post
 run-rest-part-run-rest-end-2 t c = search needs
 
+-- src/run.rt:137:5
 run-rest-run-rest-requires : (t : ℕ) → run-rest-lts.Need-run-rest-requires (
   run-first-reads.Asked,
   run-first-reads.Learnt,
   run-rest-below t,
   run-rest.Post,
 ) (run-rest-at t) run-rest.Post
-run-rest-run-rest-requires t c κs = (simp (length-take, length-drop) (omega (arith, c .before .before .before .before .before .before .before .if1 .left, c .before .before .before .before .before .before .before .before .before .before .pre .0)), tt)
+run-rest-run-rest-requires t c κs = (simp (length-take, length-drop) (omega (arith, c .before .before .before .before .before .before .before .before .before .before .before .if1 .left, c .before .before .before .before .before .before .before .before .before .before .before .before .before .before .pre .0)), tt)
 
+-- src/run.rt:121:1
 run-rest-same-length : (t : ℕ) → run-rest-lts.Need-same-length (
   run-first-reads.Asked,
   run-first-reads.Learnt,
@@ -115,10 +127,12 @@ run-rest-same-length : (t : ℕ) → run-rest-lts.Need-same-length (
   run-rest.Post,
 ) (run-rest-at t) run-rest.Post
 run-rest-same-length t c =
-    let mid = c .before .before .before .before .before .before .before .run-first .last .1 .1 .0 in
-    same-len-mid {X = ℕ} 9 (length mid - 9) mid (c .before .before .run-rest .last .1 .1 .0) (c .before .before .run-rest .kept .1 .1 .0)
-    ∙ c .before .before .before .before .before .before .before .run-first .kept .1 .1 .0
+    let b = c .before .before .before .before .before .before .before .before .before in
+    let mid = b .run-first .last .1 .1 .1 .1 .0 in
+    same-len-mid {X = ℕ} 9 (length mid - 9) mid (c .before .before .run-rest .last .1 .1 .1 .1 .0) (c .before .before .run-rest .kept .1 .1 .1 .1 .0)
+    ∙ b .run-first .kept .1 .1 .1 .1 .0
 
+-- src/run.rt:121:1
 run-rest-returns-3 : (t : ℕ) → run-rest-lts.Need-returns-3 (
   run-first-reads.Asked,
   run-first-reads.Learnt,
@@ -126,10 +140,13 @@ run-rest-returns-3 : (t : ℕ) → run-rest-lts.Need-returns-3 (
   run-rest.Post,
 ) (run-rest-at t) run-rest.Post
 run-rest-returns-3 t c =
-    let b = c .before .before .before .before .before .before .before in
-    let a = b .before .before .before .before .before .before .args in
-    went-more (a .s) (b .run-first .result) (a .list .now) (a .answers .now) (b .run-first .last .1 .1 .0) (b .before .before .before .if1 .left) (b .before .before .if2 .left)
-    (b .run-first .ensures) (c .before .before .run-rest .result) (c .before .before .run-rest .last .1 .1 .0) (c .before .before .run-rest .ensures)
+    let r = c .before .before .run-rest in
+    let b = c .before .before .before .before .before .before .before .before .before in
+    let f = b .run-first in
+    let a = b .before .before .before .before .before .before .before .before .args in
+    went-more (joinedOf (a .s) (a .ram .now) (a .code .now)) (joinedOf (f .result) (f .last .1 .0) (f .last .1 .1 .0)) (a .list .now) (a .answers .now)
+    (f .last .1 .1 .1 .1 .0) (b .before .before .before .before .before .if1 .left) (b .before .before .before .before .if2 .left)
+    (f .ensures) (joinedOf (r .result) (r .last .1 .0) (r .last .1 .1 .0)) (r .last .1 .1 .1 .1 .0) (r .ensures)
 
 pub +run-rest-spec : {M : Type 1} → statement M
 +run-rest-spec = close μ-run-rest λ t. run-rest-lts.spec (

@@ -3,29 +3,38 @@ use Rattle.controller.proofs.Laws.Run.{ran-refused, ran-accepted}
 use borrow.Author.Needs.{needs}
 use Rattle.controller.proofs.run.run.Statement.{statement}
 use Rattle.controller.proofs.run.run.Tie as tie
+use Rattle.controller.proofs.run.run.Reads as reads
+use Rattle.controller.proofs.run.run.Lts as lts
+use Rattle.controller.proofs.run.list_refusal.Reads as list-refusal-reads
+use Rattle.controller.proofs.run.run_fitting.Reads as run-fitting-reads
 
+-- src/run.rt:168:9
 list-refusal-requires : tie.Need-list-refusal-requires
 list-refusal-requires c κs = search needs
 
+-- src/run.rt:170:9
 returns : tie.Need-returns
 returns c =
     let a = c .before .before .before .before .args in
     ran-refused (a .s) (a .list .now) (a .answers .now) _ (a .answers .now) (λ e. c .if1 .taken (c .before .list-refusal .ensures ∙ e))
     (c .before .list-refusal .ensures) refl refl
 
-run-rest-requires : tie.Need-run-rest-requires
-run-rest-requires c κs = search needs
+-- src/run.rt:172:9
+run-fitting-requires : tie.Need-run-fitting-requires
+run-fitting-requires c κs = search needs
 
+-- src/run.rt:165:1
 same-length : tie.Need-same-length
 same-length c = search needs
 
+-- src/run.rt:165:1
 returns-2 : tie.Need-returns-2
 returns-2 c =
     let b = c .before .before .before .before in
     let a = b .before .before .before .before .args in
-    ran-accepted (a .s) (a .list .now) (a .answers .now) _ (c .before .before .run-rest .last .1 .1 .0)
-    (sym (b .before .list-refusal .ensures) ∙ b .if1 .left) refl (c .before .before .run-rest .ensures)
+    ran-accepted (a .s) (a .list .now) (a .answers .now) _ (c .before .before .run-fitting .last .1 .1 .0)
+    (sym (b .before .list-refusal .ensures) ∙ b .if1 .left) refl (c .before .before .run-fitting .ensures)
 
 pub run-spec : {M : Type 1} → statement M
 run-spec =
-    tie.close (tie.spec list-refusal-requires returns run-rest-requires same-length returns-2)
+    tie.close (tie.spec list-refusal-requires returns run-fitting-requires same-length returns-2)
