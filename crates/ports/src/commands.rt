@@ -400,7 +400,8 @@ fn plain_command(s: Controller, c: u8) -> Controller
 fn has_code(s: Controller) -> bool
     ensures { λ r. ⌜ r ≡ command.hasCode (view s) ⌝ }
 {
-    s.lock.length != 0
+    let lock = s.lock;
+    lock.length != 0
 }
 
 // A4h: is there a lock code?

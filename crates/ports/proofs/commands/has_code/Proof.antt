@@ -10,7 +10,7 @@ long : (c : tie.Start) → length (c .args .s .lock .code) ≡ 16
 long c = search needs
 
 returns : tie.Need-returns
-returns c = ap not (eqb-code (c .before .args .s .lock .length) (c .before .args .s .lock .code) (long (c .before)))
+returns c = ap not (eqb-code (c .before .before .args .s .lock .length) (c .before .before .args .s .lock .code) (long (c .before .before)))
 
 pub has-code-spec : {M : Type 1} → statement M
 has-code-spec = tie.close (tie.spec returns)
