@@ -3,6 +3,7 @@ use mathlib.Core.Path.{_≡_}
 use Prim.Native.Nat.{ℕ}
 use mathlib.Core.List.{List, _++_}
 use lib.ListN.{drop}
+use Rattle.machine.specs.State.{fresh}
 use Rattle.machine.specs.Events.{Event, step, answer, refusal}
 use Rattle.machine.specs.Run.{events, first, after, filled, fitting, listRefusal}
 use Rattle.machine.specs.Kept.{Kept}
@@ -38,3 +39,9 @@ pub record Ran (s : Controller) (list space : List ℕ) (r : Answered) (space′
   pub after : listRefusal list space ≡ 0 → view (r .state) ≡ after (view s) (events list)
   pub buffer : listRefusal list space ≡ 0 → space′ ≡ filled (view s) (events list) space
   pub kept : Kept (view s) → Kept (view (r .state))
+
+-- A list run from fresh: refused by its number with the buffer as it was, or all its answers written.
+pub record RanFresh (list space space′ : List ℕ) (number : ℕ) : Type 0 where
+  pub refusal : number ≡ listRefusal list space
+  pub refused : (listRefusal list space ≡ 0 → ⊥) → space′ ≡ space
+  pub answered : listRefusal list space ≡ 0 → space′ ≡ filled fresh (events list) space

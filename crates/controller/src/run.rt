@@ -7,13 +7,14 @@ use machine::state::Lock;
 use machine::state::Output;
 use machine::state::Ports;
 use machine::state::Sending;
+use machine::state::start;
 ghost use mathlib.Core.Path.{_≡_};
 ghost use mathlib.Core.List.{_++_};
 ghost use Prim.Native.Nat.{_≤_};
 ghost use lib.ListN.{length, drop};
 ghost use Rattle.machine.specs.Run.{lengthRefusal};
 ghost use Rattle.controller.specs.Small.{smallOf, joinedOf};
-ghost use Rattle.controller.specs.Done.{First, Went, Ran};
+ghost use Rattle.controller.specs.Done.{First, Went, Ran, RanFresh};
 
 // The refusal number of a call, 0 for none, and the state after it.
 pub struct Answered {
@@ -177,4 +178,12 @@ pub fn run(s: Controller, list: &[u8], answers: &mut [u8]) -> Answered
     }
     let state = run_fitting(s, list, answers);
     Answered { refusal: 0, state }
+}
+
+// A list run by a fresh controller, whose state is not wanted afterwards.
+pub fn run_fresh(list: &[u8], answers: &mut [u8]) -> u8
+    ensures { λ r. ⌜ RanFresh (now (list .entry)) (now (answers .entry)) (now (answers .exit)) r ⌝ }
+{
+    let ran = run(start(), list, answers);
+    ran.refusal
 }

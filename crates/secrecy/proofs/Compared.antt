@@ -9,22 +9,12 @@ use Rattle.machine.specs.Events.{Event}
 use Rattle.machine.specs.Run.{events, answers, filled, fitting, listRefusal}
 use Rattle.machine.specs.View.{view}
 use Rattle.machine.specs.declared.state.Controller.{Controller}
-use Rattle.controller.specs.Done.{Ran, Went}
-use Rattle.controller.specs.declared.run.Answered.{Answered}
+use Rattle.controller.specs.Done.{RanFresh, Went}
 use Rattle.controller.proofs.Laws.Run.{take-filled}
 use Rattle.secrecy.specs.Paired.{Paired}
-use Rattle.secrecy.specs.Compared.{Pinned, Compared, ComparedRest}
+use Rattle.secrecy.specs.Compared.{Compared, ComparedRest}
 use Rattle.secrecy.specs.declared.compare.Numbers.{Numbers}
 use Rattle.secrecy.proofs.Paired.{secret-answers, secret-take, listRefusal-length}
-
--- ---- Pinned
-pub pinned : (s : Controller) (list space : List ℕ) (r : Answered) (space′ : List ℕ) → view s ≡ fresh → Ran s list space r space′ → Pinned list space space′ (r .refusal)
-pinned s list space r space′ start ran =
-    record {
-      refusal = ran .refusal;
-      refused = λ stands. ran .refused stands .1;
-      answered = λ a. ran .buffer a ∙ ap (λ (m : Machine). filled m (events list) space) start;
-    }
 
 -- buffers filled with equal answers begin alike
 begin-alike : (es fs : List Event) (s t s′ t′ : List ℕ) → length es ≡ length fs → answers fresh es ≡ answers fresh fs → s′ ≡ filled fresh es s → t′ ≡ filled fresh fs t → take (9 * length es) s′ ≡ take (9 * length es) t′
@@ -33,7 +23,7 @@ begin-alike es fs s t s′ t′ same equal one other =
     ∙ ap (λ (n : ℕ). take (9 * n) (filled fresh fs t)) (sym same) ∙ ap (take (9 * length es)) (sym other)
 
 -- ---- Compared
-pub compared : (xs s s′ ys t t′ : List ℕ) (r : Numbers) → Pinned xs s s′ (r .first) → Pinned ys t t′ (r .second) → Compared xs s s′ ys t t′ r
+pub compared : (xs s s′ ys t t′ : List ℕ) (r : Numbers) → RanFresh xs s s′ (r .first) → RanFresh ys t t′ (r .second) → Compared xs s s′ ys t t′ r
 compared xs s s′ ys t t′ r one other =
     record {
       one = one;

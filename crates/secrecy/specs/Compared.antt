@@ -4,21 +4,16 @@ use mathlib.Core.Path.{_≡_}
 use mathlib.Core.List.{List}
 use lib.ListN.{length, take}
 use Rattle.machine.specs.State.{fresh}
-use Rattle.machine.specs.Run.{events, filled, fitting, listRefusal}
+use Rattle.machine.specs.Run.{events, filled, fitting}
+use Rattle.controller.specs.Done.{RanFresh}
 use Rattle.secrecy.specs.Paired.{Paired}
 use Rattle.secrecy.specs.declared.compare.Numbers.{Numbers}
-
--- One list run from fresh: refused by its number with the buffer as it was, or all its answers written.
-pub record Pinned (list space space′ : List ℕ) (number : ℕ) : Type 0 where
-  pub refusal : number ≡ listRefusal list space
-  pub refused : (listRefusal list space ≡ 0 → ⊥) → space′ ≡ space
-  pub answered : listRefusal list space ≡ 0 → space′ ≡ filled fresh (events list) space
 
 -- Two lists run by whole calls. Paired lists of one length, given buffers of one length, are refused by the same number, or the answers
 -- written are the same.
 pub record Compared (xs s s′ ys t t′ : List ℕ) (r : Numbers) : Type 0 where
-  pub one : Pinned xs s s′ (r .first)
-  pub other : Pinned ys t t′ (r .second)
+  pub one : RanFresh xs s s′ (r .first)
+  pub other : RanFresh ys t t′ (r .second)
   pub numbers : length xs ≡ length ys → length s ≡ length t → r .first ≡ r .second
   pub answers : Paired (events xs) (events ys) → length xs ≡ length ys → length s ≡ length t → r .first ≡ 0 → take (9 * length (events xs)) s′ ≡ take (9 * length (events xs)) t′
 

@@ -1,6 +1,6 @@
 // Two lists of events, each run from a fresh controller into a buffer of its own.
-use controller::run::run;
 use controller::run::run_fitting;
+use controller::run::run_fresh;
 use machine::state::start;
 ghost use Rattle.secrecy.specs.Compared.{Compared, ComparedRest};
 
@@ -14,12 +14,9 @@ pub struct Numbers {
 pub fn run_both(one: &[u8], answers: &mut [u8], other: &[u8], others: &mut [u8]) -> Numbers
     ensures { λ r. ⌜ Compared (now (one .entry)) (now (answers .entry)) (now (answers .exit)) (now (other .entry)) (now (others .entry)) (now (others .exit)) r ⌝ }
 {
-    let a = run(start(), one, answers);
-    let b = run(start(), other, others);
-    Numbers {
-        first: a.refusal,
-        second: b.refusal,
-    }
+    let first = run_fresh(one, answers);
+    let second = run_fresh(other, others);
+    Numbers { first, second }
 }
 
 // Each list event by event, whatever its length.

@@ -7,12 +7,12 @@ use native.Mathlib.Omega.{arith}
 use native.Mathlib.Nat.{not-suc-le-zero}
 use lib.ListN.{length, getD, take, drop, length-append, length-drop, drop-of-length-le}
 use lib.Seq.{take-nil, take-at, drop-at, drop-drop, take-all, sets, sets-eq}
-use Rattle.machine.specs.State.{Machine}
+use Rattle.machine.specs.State.{Machine, fresh}
 use Rattle.machine.specs.Events.{Event, step, answer, reply, lines, refusal}
 use Rattle.machine.specs.Run.{events, first, after, answers, filled, fitting, lengthRefusal, listRefusal}
 use Rattle.machine.specs.Kept.{Kept}
 use Rattle.machine.specs.View.{view}
-use Rattle.controller.specs.Done.{Done, First, Went, Ran}
+use Rattle.controller.specs.Done.{Done, First, Went, Ran, RanFresh}
 use Rattle.machine.specs.declared.state.Controller.{Controller}
 use Rattle.controller.specs.declared.events.Outcome.{Outcome}
 use Rattle.controller.specs.declared.run.Answered.{Answered}
@@ -198,3 +198,12 @@ length-answers m (e ∷ es) =
 pub take-filled : (m : Machine) (es : List Event) (space : List ℕ) → take (9 * length es) (filled m es space) ≡ answers m es
 unfolding filled
 take-filled m es space = take-at (answers m es) (drop (9 * length es) space) (9 * length es) (length-answers m es)
+
+-- ---- RanFresh
+pub ran-fresh : (s : Controller) (list space : List ℕ) (r : Answered) (space′ : List ℕ) → view s ≡ fresh → Ran s list space r space′ → RanFresh list space space′ (r .refusal)
+ran-fresh s list space r space′ start ran =
+    record {
+      refusal = ran .refusal;
+      refused = λ stands. ran .refused stands .1;
+      answered = λ a. ran .buffer a ∙ ap (λ (m : Machine). filled m (events list) space) start;
+    }

@@ -1,3 +1,5 @@
+-- `controller::events::accept` meets its contract. Each arm is the kind's case of the definition; a value of one byte is its low byte, since the event was not refused.
+-- Assumes nothing.
 use Rattle.machine.specs.Events.{accept}
 use mathlib.Core.Path.{_≡_, ap, sym, _∙_}
 use Prim.Native.Nat.{ℕ}

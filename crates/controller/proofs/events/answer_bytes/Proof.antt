@@ -1,3 +1,5 @@
+-- `controller::events::answer_bytes` meets its contract. The nine numbers are those of the definition, each callee's result put in.
+-- Assumes nothing.
 use Rattle.machine.specs.Events.{lines}
 use borrow.Author.Needs.{needs}
 use Rattle.controller.proofs.events.answer_bytes.Statement.{statement}

@@ -1,3 +1,5 @@
+-- `controller::events::byte_read` meets its contract. Each arm is the kind's case of the definition.
+-- Assumes nothing.
 use mathlib.Core.Path.{_≡_, ap, sym, _∙_}
 use borrow.Author.Tests.{ne-eqb}
 use borrow.Author.Needs.{needs}

@@ -1,3 +1,5 @@
+-- `controller::events::device_off` meets its contract. The kind's test is the definition's own.
+-- Assumes nothing.
 use mathlib.Core.Path.{_≡_, ap, sym, _∙_}
 use borrow.Author.Tests.{eq-eqb, ne-eqb}
 use borrow.Author.Needs.{needs}

@@ -1,3 +1,5 @@
+-- `controller::events::event` meets its contract. A refused event and an accepted one each have a law that makes the promised record.
+-- Assumes nothing.
 use mathlib.Core.Path.{_≡_, ap, sym, _∙_}
 use Rattle.machine.specs.Events.{event}
 use Rattle.controller.proofs.Laws.Done.{done-refused, done-accepted}

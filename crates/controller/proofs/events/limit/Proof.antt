@@ -1,3 +1,5 @@
+-- `controller::events::limit` meets its contract. The two tests are the definition's.
+-- Assumes nothing.
 use mathlib.Core.Path.{_≡_, ap, sym, _∙_}
 use borrow.Author.Needs.{needs}
 use Rattle.controller.proofs.events.limit.Statement.{statement}

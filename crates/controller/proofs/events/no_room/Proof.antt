@@ -1,3 +1,5 @@
+-- `controller::events::no_room` meets its contract. The callees' answers are the definition's.
+-- Assumes nothing.
 use borrow.Author.Needs.{needs}
 use Rattle.controller.proofs.events.no_room.Statement.{statement}
 use Rattle.controller.proofs.events.no_room.Tie as tie

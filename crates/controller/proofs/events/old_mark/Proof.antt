@@ -1,3 +1,5 @@
+-- `controller::events::old_mark` meets its contract. The test is the definition's own.
+-- Assumes nothing.
 use Rattle.controller.proofs.events.old_mark.Statement.{statement}
 use Rattle.controller.proofs.events.old_mark.Tie as tie
 

@@ -1,3 +1,5 @@
+-- `controller::events::refusal` meets its contract. The checks stand in the definition's order.
+-- Assumes nothing.
 use mathlib.Core.Path.{_≡_, ap, sym, _∙_}
 use borrow.Author.Tests.{lt-ltb, le-ltb}
 use Rattle.machine.specs.Events.{refusal}

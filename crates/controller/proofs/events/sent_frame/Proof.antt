@@ -1,3 +1,5 @@
+-- `controller::events::sent_frame` meets its contract. The test is the definition's own.
+-- Assumes nothing.
 use mathlib.Core.Path.{_≡_, ap, sym, _∙_}
 use borrow.Author.Needs.{needs}
 use Rattle.controller.proofs.events.sent_frame.Statement.{statement}

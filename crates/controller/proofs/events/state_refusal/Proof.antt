@@ -1,3 +1,5 @@
+-- `controller::events::state_refusal` meets its contract. The callees' answers are the definition's four tests.
+-- Assumes nothing.
 use mathlib.Core.Path.{_≡_, ap, sym, _∙_}
 use Rattle.machine.specs.Events.{stateRefusal}
 use borrow.Author.Needs.{needs}

@@ -1,3 +1,5 @@
+-- `controller::frames::advance` meets its contract. The test is the definition's own, and the callees' rules follow one another.
+-- Assumes nothing.
 use mathlib.Core.Path.{_≡_, ap, sym, _∙_}
 use Rattle.machine.specs.State.{lift}
 use Rattle.machine.specs.Lines.{putCell}

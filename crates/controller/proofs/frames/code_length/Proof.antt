@@ -1,3 +1,5 @@
+-- `controller::frames::code_length` meets its contract. The code is the first n bytes of sixteen, so its length is the smaller of n and 16.
+-- Assumes nothing.
 use mathlib.Core.Path.{_≡_, ap, sym, _∙_}
 use borrow.Author.Needs.{needs}
 use lib.ListN.{length}

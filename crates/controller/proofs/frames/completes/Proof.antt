@@ -1,3 +1,5 @@
+-- `controller::frames::completes` meets its contract. The length that `code_length` reads is the code's.
+-- Assumes nothing.
 use borrow.Author.Needs.{needs}
 use Rattle.controller.proofs.frames.completes.Statement.{statement}
 use Rattle.controller.proofs.frames.completes.Tie as tie

@@ -1,3 +1,5 @@
+-- `controller::frames::damaged_key` meets its contract. The callees' rules follow one another as in the definition.
+-- Assumes nothing.
 use mathlib.Core.Bool.{false}
 use mathlib.Core.Path.{_≡_, ap, sym, _∙_}
 use Rattle.machine.specs.State.{lift}

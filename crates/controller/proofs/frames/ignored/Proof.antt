@@ -1,3 +1,5 @@
+-- `controller::frames::ignored` meets its contract. The cells that `cell` reads are the definition's.
+-- Assumes nothing.
 use borrow.Author.Needs.{needs}
 use Rattle.controller.proofs.frames.ignored.Statement.{statement}
 use Rattle.controller.proofs.frames.ignored.Tie as tie

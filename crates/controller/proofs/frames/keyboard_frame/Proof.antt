@@ -1,3 +1,5 @@
+-- `controller::frames::keyboard_frame` meets its contract. Each verdict is a case of the definition.
+-- Assumes nothing.
 use mathlib.Core.Path.{_≡_, ap, sym, _∙_}
 use Rattle.machine.specs.Frames.{keyboardFrame}
 use borrow.Author.Needs.{needs}

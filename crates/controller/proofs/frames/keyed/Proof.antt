@@ -1,3 +1,5 @@
+-- `controller::frames::keyed` meets its contract. Each answer of the translation is a case of the definition.
+-- Assumes nothing.
 use mathlib.Core.Path.{_≡_, ap, sym, _∙_}
 use Rattle.machine.specs.Frames.{keyed}
 use borrow.Author.Needs.{needs}

@@ -1,3 +1,5 @@
+-- `controller::frames::keyed_byte` meets its contract. The two tests are the definition's, in its order.
+-- Assumes nothing.
 use mathlib.Core.Path.{_≡_, ap, sym, _∙_}
 use Rattle.machine.specs.Frames.{keyedByte}
 use borrow.Author.Needs.{needs}

@@ -1,3 +1,5 @@
+-- `controller::frames::matches` meets its contract. Below the code's length the array's byte is the code's; past it nothing matches.
+-- Assumes nothing.
 use mathlib.Core.Path.{_≡_, ap, sym, _∙_}
 use lib.ListN.{length}
 use native.Mathlib.Omega.{arith}

@@ -1,3 +1,5 @@
+-- `controller::frames::mouse_frame` meets its contract. Each verdict is a case of the definition, and the callees' rules follow one another.
+-- Assumes nothing.
 use mathlib.Core.Path.{_≡_, ap, sym, _∙_}
 use Rattle.machine.specs.State.{lift}
 use Rattle.machine.specs.Frames.{mouseFrame, mousePut}

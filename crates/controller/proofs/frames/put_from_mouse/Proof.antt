@@ -1,3 +1,5 @@
+-- `controller::frames::put_from_mouse` meets its contract. The test is the definition's own.
+-- Assumes nothing.
 use mathlib.Core.Path.{_≡_, ap, sym, _∙_}
 use Rattle.machine.specs.Frames.{mousePut}
 use borrow.Author.Needs.{needs}

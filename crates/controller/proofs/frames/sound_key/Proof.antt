@@ -1,3 +1,5 @@
+-- `controller::frames::sound_key` meets its contract. The callees' rules follow one another, over the translation that `translated` answers.
+-- Assumes nothing.
 use mathlib.Core.Path.{_≡_, ap, sym, _∙_}
 use mathlib.Core.Bool.{false}
 use Rattle.translation.specs.ScanCodes.{Translation}

@@ -1,3 +1,5 @@
+-- `controller::frames::taken` meets its contract. The callees' rules follow one another as in the definition.
+-- Assumes nothing.
 use mathlib.Core.Path.{_≡_, ap, sym, _∙_}
 use mathlib.Core.Bool.{false}
 use Rattle.machine.specs.State.{lift}

@@ -1,3 +1,5 @@
+-- `controller::frames::timed_out` meets its contract. The device that was sent to picks the source, and the callees' rules follow one another.
+-- Assumes nothing.
 use mathlib.Core.Path.{_≡_, ap, sym, _∙_}
 use mathlib.Core.Bool.{true, false}
 use borrow.Author.Tests.{eq-eqb, ne-eqb}

@@ -1,3 +1,5 @@
+-- `controller::frames::translated` meets its contract. The test is the definition's own.
+-- Assumes nothing.
 use mathlib.Core.Path.{_≡_, ap, sym, _∙_}
 use Rattle.machine.specs.Frames.{translated}
 use borrow.Author.Needs.{needs}

@@ -1,3 +1,5 @@
+-- `controller::frames::try_key` meets its contract. The two tests are the definition's; a key that matches stands below the sixteenth place.
+-- Assumes nothing.
 use mathlib.Core.Path.{_≡_, ap, sym, _∙_}
 use Rattle.machine.specs.Frames.{try}
 use borrow.Author.Needs.{needs}

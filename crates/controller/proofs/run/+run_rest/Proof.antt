@@ -1,3 +1,5 @@
+-- `controller::run::run_rest` meets its contract. The measure is the list's length. One event and what the call on the rest promises make the whole.
+-- Assumes nothing.
 use borrow.Author.Needs.{needs}
 use mathlib.Core.Path.{_∙_}
 use native.Mathlib.Omega.{arith}
@@ -25,7 +27,6 @@ abbrev run-rest-below : ℕ → In 4 run-rest-kinds.ps
 run-rest-below t =
     and 4 run-rest-kinds.ps (falls 4 run-rest-kinds.ps _<_ μ-run-rest t) run-rest.Pre
 
--- src/run.rt:131:9
 run-rest-returns : (t : ℕ) → run-rest-lts.Need-returns (
   run-first-reads.Asked,
   run-first-reads.Learnt,
@@ -36,7 +37,6 @@ run-rest-returns t c =
     let a = c .before .before .before .args in
     went-none (joinedOf (a .s) (a .ram .now) (a .code .now)) (a .list .now) (a .answers .now) (fitting-short (a .list .now) (a .answers .now) (c .if1 .taken))
 
--- src/run.rt:134:9
 run-rest-returns-2 : (t : ℕ) → run-rest-lts.Need-returns-2 (
   run-first-reads.Asked,
   run-first-reads.Learnt,
@@ -47,7 +47,6 @@ run-rest-returns-2 t c =
     let a = c .before .before .before .before .args in
     went-none (joinedOf (a .s) (a .ram .now) (a .code .now)) (a .list .now) (a .answers .now) (fitting-tight (a .list .now) (a .answers .now) (c .if2 .taken))
 
--- src/run.rt:136:9
 run-rest-run-first-requires : (t : ℕ) → run-rest-lts.Need-run-first-requires (
   run-first-reads.Asked,
   run-first-reads.Learnt,
@@ -56,7 +55,6 @@ run-rest-run-first-requires : (t : ℕ) → run-rest-lts.Need-run-first-requires
 ) (run-rest-at t) run-rest.Post
 run-rest-run-first-requires t c κs = search needs
 
--- src/run.rt:137:31
 run-rest-sub-run-rest : (t : ℕ) → run-rest-lts.Need-sub-run-rest (
   run-first-reads.Asked,
   run-first-reads.Learnt,
@@ -65,7 +63,6 @@ run-rest-sub-run-rest : (t : ℕ) → run-rest-lts.Need-sub-run-rest (
 ) (run-rest-at t) run-rest.Post
 run-rest-sub-run-rest t c = search needs
 
--- src/run.rt:137:31
 run-rest-part-run-rest-start : (t : ℕ) → run-rest-lts.Need-part-run-rest-start (
   run-first-reads.Asked,
   run-first-reads.Learnt,
@@ -74,7 +71,6 @@ run-rest-part-run-rest-start : (t : ℕ) → run-rest-lts.Need-part-run-rest-sta
 ) (run-rest-at t) run-rest.Post
 run-rest-part-run-rest-start t c = search needs
 
--- src/run.rt:137:31
 run-rest-part-run-rest-end : (t : ℕ) → run-rest-lts.Need-part-run-rest-end (
   run-first-reads.Asked,
   run-first-reads.Learnt,
@@ -83,7 +79,6 @@ run-rest-part-run-rest-end : (t : ℕ) → run-rest-lts.Need-part-run-rest-end (
 ) (run-rest-at t) run-rest.Post
 run-rest-part-run-rest-end t c = search needs
 
--- src/run.rt:137:43
 run-rest-sub-run-rest-2 : (t : ℕ) → run-rest-lts.Need-sub-run-rest-2 (
   run-first-reads.Asked,
   run-first-reads.Learnt,
@@ -92,7 +87,6 @@ run-rest-sub-run-rest-2 : (t : ℕ) → run-rest-lts.Need-sub-run-rest-2 (
 ) (run-rest-at t) run-rest.Post
 run-rest-sub-run-rest-2 t c = omega (arith, c .before .before .before .before .before .run-first .kept .1 .1 .1 .1 .0, c .before .before .before .before .before .before .before .before .before .if2 .left)
 
--- src/run.rt:137:43
 run-rest-part-run-rest-start-2 : (t : ℕ) → run-rest-lts.Need-part-run-rest-start-2 (
   run-first-reads.Asked,
   run-first-reads.Learnt,
@@ -101,7 +95,6 @@ run-rest-part-run-rest-start-2 : (t : ℕ) → run-rest-lts.Need-part-run-rest-s
 ) (run-rest-at t) run-rest.Post
 run-rest-part-run-rest-start-2 t c = omega (arith, c .before .before .before .before .before .run-first .kept .1 .1 .1 .1 .0, c .before .before .before .before .before .before .before .before .before .if2 .left)
 
--- src/run.rt:137:43
 run-rest-part-run-rest-end-2 : (t : ℕ) → run-rest-lts.Need-part-run-rest-end-2 (
   run-first-reads.Asked,
   run-first-reads.Learnt,
@@ -110,7 +103,6 @@ run-rest-part-run-rest-end-2 : (t : ℕ) → run-rest-lts.Need-part-run-rest-end
 ) (run-rest-at t) run-rest.Post
 run-rest-part-run-rest-end-2 t c = search needs
 
--- src/run.rt:137:5
 run-rest-run-rest-requires : (t : ℕ) → run-rest-lts.Need-run-rest-requires (
   run-first-reads.Asked,
   run-first-reads.Learnt,
@@ -119,7 +111,6 @@ run-rest-run-rest-requires : (t : ℕ) → run-rest-lts.Need-run-rest-requires (
 ) (run-rest-at t) run-rest.Post
 run-rest-run-rest-requires t c κs = (simp (length-take, length-drop) (omega (arith, c .before .before .before .before .before .before .before .before .before .before .before .if1 .left, c .before .before .before .before .before .before .before .before .before .before .before .before .before .before .pre .0)), tt)
 
--- src/run.rt:121:1
 run-rest-same-length : (t : ℕ) → run-rest-lts.Need-same-length (
   run-first-reads.Asked,
   run-first-reads.Learnt,
@@ -132,7 +123,6 @@ run-rest-same-length t c =
     same-len-mid {X = ℕ} 9 (length mid - 9) mid (c .before .before .run-rest .last .1 .1 .1 .1 .0) (c .before .before .run-rest .kept .1 .1 .1 .1 .0)
     ∙ b .run-first .kept .1 .1 .1 .1 .0
 
--- src/run.rt:121:1
 run-rest-returns-3 : (t : ℕ) → run-rest-lts.Need-returns-3 (
   run-first-reads.Asked,
   run-first-reads.Learnt,

@@ -1,3 +1,5 @@
+-- `controller::run::list_refusal` meets its contract. The checks stand in the definition's order; a list of at most 21,000 bytes keeps the product small.
+-- Assumes nothing.
 use borrow.Author.Tests.{eq-eqb, ne-eqb, lt-ltb, le-ltb}
 use Rattle.machine.specs.Run.{lengthRefusal}
 use borrow.Author.Needs.{needs}

@@ -1,3 +1,5 @@
+-- `controller::run::run_fitting` meets its contract. The state taken apart and put together again is the state.
+-- Assumes nothing.
 use mathlib.Core.Path.{ap, sym, subst₂}
 use Rattle.controller.specs.Small.{joinedOf}
 use Rattle.controller.specs.Done.{Went}
@@ -6,29 +8,19 @@ use Rattle.machine.specs.declared.state.Controller.{Controller}
 use borrow.Author.Needs.{needs}
 use Rattle.controller.proofs.run.run_fitting.Statement.{statement}
 use Rattle.controller.proofs.run.run_fitting.Tie as tie
-use Rattle.controller.proofs.run.run_fitting.Reads as reads
-use Rattle.controller.proofs.run.run_fitting.Lts as lts
-use Rattle.controller.proofs.run.joined.Reads as joined-reads
-use Rattle.controller.proofs.run.run_rest.Reads as run-rest-reads
-use Rattle.controller.proofs.run.without_arrays.Reads as without-arrays-reads
 
--- src/run.rt:147:25
 without-arrays-requires : tie.Need-without-arrays-requires
 without-arrays-requires c κs = search needs
 
--- src/run.rt:147:9
 run-rest-requires : tie.Need-run-rest-requires
 run-rest-requires c κs = search needs
 
--- src/run.rt:148:5
 joined-requires : tie.Need-joined-requires
 joined-requires c κs = search needs
 
--- src/run.rt:141:1
 same-length : tie.Need-same-length
 same-length c = search needs
 
--- src/run.rt:141:1
 returns : tie.Need-returns
 returns c =
     let r = c .before .before .before .run-rest in

@@ -1,3 +1,5 @@
+-- `controller::run::write_answer` meets its contract. Nine stores at the front are the nine bytes before the rest.
+-- Assumes nothing.
 use native.Mathlib.Omega.{arith}
 use lib.ListN.{length, length-set}
 use mathlib.Core.Path.{_≡_, ap, sym, _∙_}

@@ -1,3 +1,5 @@
+-- `ports::commands::ask_code` meets its contract. The test is the definition's own.
+-- Assumes nothing.
 use borrow.Author.Needs.{needs}
 use mathlib.Core.Path.{_≡_, ap, sym, _∙_}
 use Rattle.machine.specs.Commands.{codeAsked}

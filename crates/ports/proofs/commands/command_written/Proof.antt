@@ -1,3 +1,5 @@
+-- `ports::commands::command_written` meets its contract. The two looked-up numbers are the definition's.
+-- Assumes nothing.
 use borrow.Author.Needs.{needs}
 use Rattle.ports.proofs.commands.command_written.Statement.{statement}
 use Rattle.ports.proofs.commands.command_written.Tie as tie

@@ -1,3 +1,5 @@
+-- `ports::commands::has_code` meets its contract. The code is empty exactly where its length is 0.
+-- Assumes nothing.
 use lib.ListN.{length}
 use mathlib.Core.Path.{_≡_, ap, sym, _∙_}
 use borrow.Author.Needs.{needs}

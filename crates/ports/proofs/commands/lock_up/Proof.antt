@@ -1,3 +1,5 @@
+-- `ports::commands::lock_up` meets its contract. The test is the definition's own, and the callees' rules follow one another.
+-- Assumes nothing.
 use borrow.Author.Needs.{needs}
 use mathlib.Core.Path.{_≡_, ap, sym, _∙_}
 use Rattle.machine.specs.State.{lift}

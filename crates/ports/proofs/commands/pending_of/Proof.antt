@@ -1,3 +1,5 @@
+-- `ports::commands::pending_of` meets its contract. One computed test over the 256 entries shows that each is what the rule says.
+-- Assumes nothing.
 use mathlib.Core.Path.{refl, sym, subst}
 use lib.Dec.{T}
 use Rattle.translation.proofs.Tests.{every-below}

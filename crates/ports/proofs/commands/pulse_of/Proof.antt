@@ -1,3 +1,5 @@
+-- `ports::commands::pulse_of` meets its contract. The test is the definition's own.
+-- Assumes nothing.
 use borrow.Author.Needs.{needs}
 use mathlib.Core.Path.{_≡_, ap, sym, _∙_}
 use borrow.Author.Tests.{le-leb, lt-leb}

@@ -1,3 +1,5 @@
+-- `ports::commands::put_named_cell` meets its contract. The cell that `cell` reads is the definition's.
+-- Assumes nothing.
 use borrow.Author.Needs.{needs}
 use mathlib.Core.Path.{_≡_, ap, sym, _∙_}
 use Rattle.ports.proofs.commands.put_named_cell.Statement.{statement}

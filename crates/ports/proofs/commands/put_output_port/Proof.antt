@@ -1,3 +1,5 @@
+-- `ports::commands::put_output_port` meets its contract. The port is read before the byte is put.
+-- Assumes nothing.
 use borrow.Author.Needs.{needs}
 use mathlib.Core.Path.{_≡_, ap, sym, _∙_}
 use Rattle.ports.proofs.commands.put_output_port.Statement.{statement}

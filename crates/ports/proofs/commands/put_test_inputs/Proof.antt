@@ -1,3 +1,5 @@
+-- `ports::commands::put_test_inputs` meets its contract. The callees' results are the definition's.
+-- Assumes nothing.
 use borrow.Author.Needs.{needs}
 use mathlib.Core.Path.{_≡_, ap, sym, _∙_}
 use Rattle.ports.proofs.commands.put_test_inputs.Statement.{statement}

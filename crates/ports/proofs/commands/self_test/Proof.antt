@@ -1,3 +1,5 @@
+-- `ports::commands::self_test` meets its contract. The callees' rules follow one another, over the mode byte that `mode` reads.
+-- Assumes nothing.
 use borrow.Author.Needs.{needs}
 use mathlib.Core.Path.{_≡_, ap, sym, _∙_}
 use Rattle.machine.specs.State.{lift}

@@ -1,3 +1,5 @@
+-- `ports::commands::write_command` meets its contract. The callees' rules follow one another as in the definition.
+-- Assumes nothing.
 use borrow.Author.Needs.{needs}
 use mathlib.Core.Path.{_≡_, ap, sym, _∙_}
 use Rattle.machine.specs.State.{lift}

@@ -1,3 +1,5 @@
+-- `ports::data_port::append` meets its contract. The byte stored behind the code lengthens it by one.
+-- Assumes nothing.
 use borrow.Author.Needs.{needs}
 use mathlib.Core.Path.{_≡_, ap, sym, _∙_}
 use lib.ListN.{length}

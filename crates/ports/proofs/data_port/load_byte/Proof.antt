@@ -1,3 +1,5 @@
+-- `ports::data_port::load_byte` meets its contract. Its two tests are those of the definition: the code is full where its length is 16.
+-- Assumes nothing.
 use borrow.Author.Needs.{needs}
 use mathlib.Core.Path.{_≡_, ap, sym, _∙_}
 use lib.ListN.{length}

@@ -1,3 +1,5 @@
+-- `ports::data_port::plain_data` meets its contract. Each arm is a case of the definition, which computes once the pending code is known.
+-- Assumes nothing.
 use borrow.Author.Needs.{needs}
 use mathlib.Core.Path.{_≡_, ap, sym, _∙_}
 use borrow.Author.Tests.{ne-eqb}

@@ -1,3 +1,5 @@
+-- `ports::data_port::send_keyboard` meets its contract. The two callees' rules, one after the other, are the definition.
+-- Assumes nothing.
 use borrow.Author.Needs.{needs}
 use mathlib.Core.Path.{_≡_, ap, sym, _∙_}
 use Rattle.machine.specs.State.{lift}

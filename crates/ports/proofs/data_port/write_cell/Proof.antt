@@ -1,3 +1,5 @@
+-- `ports::data_port::write_cell` meets its contract. A cell within the RAM is set; one past its end leaves the list as it is.
+-- Assumes nothing.
 use borrow.Author.Needs.{needs}
 use mathlib.Core.Path.{_≡_, ap, sym, _∙_}
 use native.Mathlib.Omega.{arith}

@@ -1,3 +1,5 @@
+-- `ports::data_port::write_data` meets its contract. The pending code's test picks the case, and the callees' rules follow one another.
+-- Assumes nothing.
 use borrow.Author.Needs.{needs}
 use mathlib.Core.Path.{_≡_, ap, sym, _∙_}
 use borrow.Author.Tests.{eq-eqb, ne-eqb}

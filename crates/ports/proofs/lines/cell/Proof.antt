@@ -1,3 +1,5 @@
+-- `ports::lines::cell` meets its contract. An index within the RAM reads the cell; past its end the definition reads 0.
+-- Assumes nothing.
 use borrow.Author.Needs.{needs}
 use mathlib.Core.Path.{_≡_, sym}
 use lib.ListN.{length}

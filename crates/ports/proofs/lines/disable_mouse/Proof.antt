@@ -1,3 +1,5 @@
+-- `ports::lines::disable_mouse` meets its contract. The mode byte that `mode` reads is the definition's.
+-- Assumes nothing.
 use borrow.Author.Needs.{needs}
 use Rattle.ports.proofs.lines.disable_mouse.Statement.{statement}
 use Rattle.ports.proofs.lines.disable_mouse.Tie as tie

@@ -1,3 +1,5 @@
+-- `ports::lines::enable_keyboard` meets its contract. The mode byte that `mode` reads is the definition's.
+-- Assumes nothing.
 use borrow.Author.Needs.{needs}
 use Rattle.ports.proofs.lines.enable_keyboard.Statement.{statement}
 use Rattle.ports.proofs.lines.enable_keyboard.Tie as tie

@@ -1,3 +1,5 @@
+-- `ports::lines::high_nibble` meets its contract. The overlay's test picks the case of the definition.
+-- Assumes nothing.
 use borrow.Author.Needs.{needs}
 use Rattle.machine.specs.Lines.{highNibble}
 use Rattle.ports.proofs.lines.high_nibble.Statement.{statement}

@@ -1,3 +1,5 @@
+-- `ports::lines::nibble` meets its contract. Each weight is the line's own, and the four together stay below 16.
+-- Assumes nothing.
 use borrow.Author.Needs.{needs}
 use native.Mathlib.Omega.{arith}
 use Rattle.machine.specs.Lines.{nibble}

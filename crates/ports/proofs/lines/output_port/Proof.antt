@@ -1,3 +1,5 @@
+-- `ports::lines::output_port` meets its contract. It is the sum that the definition has, each callee's result put in.
+-- Assumes nothing.
 use borrow.Author.Needs.{needs}
 use Rattle.machine.specs.Lines.{outputPort}
 use Rattle.ports.proofs.lines.output_port.Statement.{statement}

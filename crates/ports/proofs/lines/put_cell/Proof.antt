@@ -1,3 +1,5 @@
+-- `ports::lines::put_cell` meets its contract. A cell that is 0 puts nothing, any other is put: the two laws of `putCell`.
+-- Assumes nothing.
 use borrow.Author.Needs.{needs}
 use Rattle.machine.specs.State.{Public}
 use Rattle.machine.specs.Lines.{put, putCell}

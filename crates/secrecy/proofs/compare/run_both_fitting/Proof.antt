@@ -1,37 +1,28 @@
+-- `secrecy::compare::run_both_fitting` meets its contract. Each run is pinned to the machine from fresh, and the theorem on paired lists gives equal answers.
+-- Assumes nothing.
 use Rattle.secrecy.proofs.Compared.{compared-rest}
 use borrow.Author.Needs.{needs}
 use Rattle.secrecy.proofs.compare.run_both_fitting.Statement.{statement}
 use Rattle.secrecy.proofs.compare.run_both_fitting.Tie as tie
-use Rattle.secrecy.proofs.compare.run_both_fitting.Reads as reads
-use Rattle.secrecy.proofs.compare.run_both_fitting.Lts as lts
-use Rattle.controller.proofs.run.run_fitting.Reads as run-fitting-reads
-use Rattle.machine.proofs.state.start.Reads as start-reads
 
--- src/compare.rt:28:14
 start-requires : tie.Need-start-requires
 start-requires c κs = search needs
 
--- src/compare.rt:28:5
 run-fitting-requires : tie.Need-run-fitting-requires
 run-fitting-requires c κs = search needs
 
--- src/compare.rt:29:14
 start-requires-2 : tie.Need-start-requires-2
 start-requires-2 c κs = search needs
 
--- src/compare.rt:29:5
 run-fitting-requires-2 : tie.Need-run-fitting-requires-2
 run-fitting-requires-2 c κs = search needs
 
--- src/compare.rt:25:1
 same-length : tie.Need-same-length
 same-length c = search needs
 
--- src/compare.rt:25:1
 same-length-2 : tie.Need-same-length-2
 same-length-2 c = search needs
 
--- src/compare.rt:25:1
 returns : tie.Need-returns
 returns c =
     let d = c .before .before .before .before .before .before .before in
