@@ -144,19 +144,27 @@ fn run_rest(
     run_rest(next, ram, code, &list[3..], &mut answers[9..])
 }
 
-// The same from a whole state to a whole state.
+// The same from a whole state to a whole state. The first event is apart: with two callers, one event stays a function of its own in the
+// compiled code, and a level of the recursion does not hold all that it works with.
 pub fn run_fitting(s: Controller, list: &[u8], answers: &mut [u8]) -> Controller
     ensures { λ r. ⌜ Went s (now (list .entry)) (now (answers .entry)) r (now (answers .exit)) ⌝ }
 {
+    if list.len() < 3 {
+        return s;
+    }
+    if answers.len() < 9 {
+        return s;
+    }
     let mut ram = s.ram;
     let lock = s.lock;
     let mut code = lock.code;
-    let last = run_rest(without_arrays(s), &mut ram, &mut code, list, answers);
+    let next = run_first(without_arrays(s), &mut ram, &mut code, list, answers);
+    let last = run_rest(next, &mut ram, &mut code, &list[3..], &mut answers[9..]);
     joined(last, ram, code)
 }
 
 // The checks of a whole call.
-fn list_refusal(list: usize, space: usize) -> u8
+pub fn list_refusal(list: usize, space: usize) -> u8
     ensures { λ r. ⌜ r ≡ lengthRefusal list space ⌝ }
 {
     if list % 3 != 0 {

@@ -13,3 +13,4 @@ pub mod KeptCommands
 pub mod KeptFrames
 pub mod Kept
 pub mod View
+pub mod Worked

@@ -7,3 +7,4 @@ pub mod Events
 pub mod Run
 pub mod Kept
 pub mod View
+pub mod Worked

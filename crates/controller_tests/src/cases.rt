@@ -1,0 +1,120 @@
+// The cases. An event is its three bytes in hexadecimal.
+// This file is Rust as well: the generator of the expected output includes it.
+use crate::case;
+use crate::sized;
+
+// Eight events over and over.
+fn mixed(name: &[u8], bytes: usize, space: usize) {
+    sized(
+        name,
+        b"03AE00 042806 020000 000000 03D000 020000 03AD00 000000",
+        bytes,
+        space,
+    );
+}
+
+// The limits of a list and of the answer buffer.
+pub fn sizes() {
+    mixed(b"no events", 0, 0);
+    mixed(b"no events, 9 bytes of space", 0, 9);
+    mixed(b"4 events, 35 bytes of space", 12, 35);
+    mixed(b"4 events, 36 bytes of space", 12, 36);
+    mixed(b"4 events, 45 bytes of space", 12, 45);
+    mixed(b"20999 bytes, 63027 bytes of space", 20999, 63027);
+    mixed(b"21000 bytes, 63027 bytes of space", 21000, 63027);
+    mixed(b"7000 events, 63000 bytes of space", 21000, 63000);
+    mixed(b"7000 events, 62999 bytes of space", 21000, 62999);
+    mixed(b"7001 events, 63009 bytes of space", 21003, 63009);
+    mixed(b"7001 events, 0 bytes of space", 21003, 0);
+}
+
+// Events that a check refuses.
+pub fn refusals() {
+    case(
+        b"2048 is refused by 2 for kinds 4 and 5, 2047 is not",
+        b"03AE00 03A800 040008 04FF07 000000 050008 05FF07 000000",
+    );
+    case(
+        b"refusals 1 to 6",
+        b"09FFFF 000100 030001 060000 042806 011400 011400 010001 042806 060000 \
+        03A500 011E00 010000 03A600 03A400 042806",
+    );
+}
+
+// What the host reads, and the lines.
+pub fn reads() {
+    case(b"printed case", b"03AA00 020000 000000 000000");
+    case(
+        b"a read of an empty buffer is marked old",
+        b"000000 03D200 017700 000000 000000",
+    );
+    case(
+        b"EKI set on a full buffer raises KIRQ",
+        b"03D200 017700 036000 017100 036000 017000 000000",
+    );
+    case(
+        b"D0h puts P2 as it was before the command",
+        b"036000 017100 03D000 000000 03D200 017700 03D000 000000",
+    );
+    case(
+        b"only a write to 64h ends an overlay",
+        b"08A500 03C100 020000 010000 03C200 080000 070000 000000 030000 020000",
+    );
+    case(b"pulses", b"03F000 03FD00 03FE00 03FF00 020000");
+}
+
+// Loads of a lock code, and what A4h says of them.
+pub fn loads() {
+    case(
+        b"16 code bytes load",
+        b"03A500 011E00 011E00 011E00 011E00 011E00 011E00 011E00 011E00 \
+        011E00 011E00 011E00 011E00 011E00 011E00 011E00 011E00 010000 03A400 000000",
+    );
+    case(
+        b"the 17th code byte ends the load, and the next goes to the keyboard",
+        b"03A500 011E00 011E00 011E00 011E00 011E00 011E00 011E00 011E00 \
+        011E00 011E00 011E00 011E00 011E00 011E00 011E00 011E00 011E00 013000 060000 03A400 000000",
+    );
+    case(
+        b"a write to 64h during a load leaves no code",
+        b"03A500 011E00 03A400 000000 03A500 011E00 03A600 03A400 000000",
+    );
+    case(
+        b"A5h 00h leaves no code",
+        b"03A500 013000 010000 03A400 000000 03A500 010000 03A400 000000",
+    );
+}
+
+// Keys at the lock, whose code is 1Eh 30h and which puts 99h as it opens; and the key switch.
+pub fn lock() {
+    case(
+        b"code 1Eh 30h opens on 1Ch 32h",
+        b"03AE00 037400 019900 03A500 011E00 013000 010000 03A600 \
+        043804 046404 000000 03A400 000000",
+    );
+    case(
+        b"inhibit swallows a key before it is a try",
+        b"03AE00 037400 019900 03A500 011E00 013000 010000 03A600 \
+        087F00 043804 08FF00 046404 043804 087F00 043804 08FF00 046404 000000",
+    );
+    case(
+        b"mode bit 3 overrides inhibit",
+        b"036000 014800 087F00 042806 000000 036000 014000 042806 000000",
+    );
+}
+
+// Bytes sent to a device and frames that come from it.
+pub fn frames() {
+    case(
+        b"FEh has the source of the device that was sent to",
+        b"03D400 010100 070000 000000 010100 070000 000000",
+    );
+    case(
+        b"ABh 83h is read as ABh 41h",
+        b"03AE00 045605 000000 040605 000000",
+    );
+    case(
+        b"F0h yields nothing and sets bit 7 of the next byte",
+        b"03AE00 04E007 000000 04F204 000000 04F204 000000 04E007 04FF07 000000 04F204 000000",
+    );
+}

@@ -1,0 +1,201 @@
+// Runs lists of events at the limits of a call, and short lists for single rules, and prints what comes back.
+mod cases;
+
+use controller::run::run;
+use libc::STDOUT_FILENO;
+use machine::state::start;
+ghost use Prim.Native.Nat.{_*_, _≤_, _<_};
+ghost use lib.ListN.{length};
+
+// What an answer buffer holds before a run.
+const MARK: u8 = 0xA5;
+
+fn put(text: &[u8]) {
+    io::write_all(STDOUT_FILENO, text);
+}
+
+// The hexadecimal digit of the low four bits.
+fn digit(n: u8) -> u8 {
+    let low = n % 16;
+    if low < 10 {
+        b'0' + low
+    } else {
+        b'A' + (low - 10)
+    }
+}
+
+// A byte in two digits, and what ends it.
+fn put_byte(byte: u8, end: u8) {
+    put(&[digit(byte / 16), digit(byte), end]);
+}
+
+// Nine bytes to a line.
+fn put_answers(answers: &[u8]) {
+    let mut i = 0;
+    while i < answers.len() {
+        if i % 9 == 8 {
+            put_byte(answers[i], b'\n');
+        } else {
+            put_byte(answers[i], b' ');
+        }
+        i += 1;
+    }
+}
+
+// What a capital hexadecimal digit stands for.
+fn nibble(digit: u8) -> u8 {
+    if digit < b'A' {
+        digit % 16
+    } else {
+        (digit % 16 + 9) % 16
+    }
+}
+
+// One more digit of a list, two to a byte; a space is none. The count of digits after it.
+fn add_digit(list: &mut [u8], digits: usize, digit: u8) -> usize
+    requires { ⌜ digits ≤ 2 * length (now list) ⌝ }
+    ensures { λ r. ⌜ r ≤ 2 * length (now (list .exit)) ⌝ }
+{
+    let at = digits / 2;
+    if digit == b' ' {
+        return digits;
+    }
+    if list.len() <= at {
+        return digits;
+    }
+    list[at] = list[at] % 16 * 16 + nibble(digit) % 16;
+    digits + 1
+}
+
+// The bytes that a text of digits and spaces stands for, as far as the list has room, and their count.
+fn parse(text: &[u8], list: &mut [u8]) -> usize
+    ensures { λ r. ⌜ r ≤ length (now (list .exit)) ⌝ }
+{
+    let mut digits = 0;
+    let mut i = 0;
+    while i < text.len() {
+        digits = add_digit(list, digits, text[i]);
+        i += 1;
+    }
+    digits / 2
+}
+
+// The first n bytes of a list over and over.
+fn repeat(list: &mut [u8], n: usize) {
+    let mut i = n;
+    while i < list.len() {
+        list[i] = list[i - n];
+        i += 1;
+    }
+}
+
+// From this index on all is as before the run.
+fn untouched(answers: &[u8], from: usize) -> bool {
+    let mut i = from;
+    while i < answers.len() {
+        if answers[i] != MARK {
+            return false;
+        }
+        i += 1;
+    }
+    true
+}
+
+fn wide(byte: u8) -> u32
+    ensures { λ r. ⌜ r < 256 ⌝ }
+{
+    byte as u32
+}
+
+// A sum over bytes that goes by their order.
+fn digest(bytes: &[u8]) -> u32 {
+    let mut sum: u32 = 1;
+    let mut i = 0;
+    while i < bytes.len() {
+        sum = (sum * 31 + wide(bytes[i])) % 65521;
+        i += 1;
+    }
+    sum
+}
+
+fn put_rest(answers: &[u8], from: usize) {
+    if untouched(answers, from) {
+        put(b" untouched");
+    } else {
+        put(b" touched");
+    }
+}
+
+// A sum over the answers, and the last one.
+fn put_written(answers: &[u8]) {
+    let sum = digest(answers);
+    put(b", sum ");
+    put_byte((sum / 256 % 256) as u8, b' ');
+    put_byte((sum % 256) as u8, b',');
+    let end = answers.len();
+    if end < 9 {
+        put(b" none\n");
+        return;
+    }
+    put(b" last ");
+    put_answers(&answers[end - 9..]);
+}
+
+// What a call left: its refusal number, and the buffer, of which an accepted call has written nine bytes an event.
+fn put_outcome(refusal: u8, answers: &[u8], events: usize) {
+    put(b": refusal ");
+    put_byte(refusal, b',');
+    if refusal != 0 {
+        put_rest(answers, 0);
+        put(b"\n");
+        return;
+    }
+    if answers.len() / 9 < events {
+        return;
+    }
+    let written = events * 9;
+    put_rest(answers, written);
+    put_written(&answers[..written]);
+}
+
+// The first bytes of a list run from fresh, with that much of the buffer: the refusal number. FFh where the program has not as many.
+fn run_part(list: &[u8], bytes: usize, answers: &mut [u8], space: usize) -> u8 {
+    if list.len() < bytes {
+        return 0xFF;
+    }
+    if answers.len() < space {
+        return 0xFF;
+    }
+    run(start(), &list[..bytes], &mut answers[..space]).refusal
+}
+
+// A list of some events over and over: that many bytes of it are run, with that much space for the answers.
+pub fn sized(name: &[u8], events: &[u8], bytes: usize, space: usize) {
+    let mut list = [0u8; 21003];
+    let n = parse(events, &mut list);
+    repeat(&mut list, n);
+    let mut answers = [MARK; 63027];
+    let refusal = run_part(&list, bytes, &mut answers, space);
+    put(name);
+    put_outcome(refusal, &answers, bytes / 3);
+}
+
+// A list of a few events, and each answer.
+pub fn case(name: &[u8], events: &[u8]) {
+    let mut list = [0u8; 96];
+    let n = parse(events, &mut list);
+    let mut answers = [MARK; 288];
+    run(start(), &list[..n], &mut answers);
+    put(name);
+    put(b"\n");
+    put_answers(&answers[..n / 3 * 9]);
+}
+
+fn main() {
+    cases::sizes();
+    cases::refusals();
+    cases::reads();
+    cases::loads();
+    cases::lock();
+    cases::frames();
+}

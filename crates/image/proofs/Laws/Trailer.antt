@@ -1,0 +1,89 @@
+-- A body with its trailer behind it passes check 10 wherever it ends the bytes, and what passes is such a body: for every edition and length.
+-- Assumes nothing.
+use mathlib.Core.Path.{_≡_, refl, ap, sym, _∙_}
+use mathlib.Core.List.{List, [], _∷_, _++_, append-assoc}
+use Prim.Native.Nat.{ℕ, _+_, _-_, _<_}
+use native.Mathlib.Omega.{arith}
+use lib.ListN.{length, take, drop, length-append, length-drop, take-append-drop}
+use lib.Seq.{take-at, drop-at, take-all, drop-drop}
+use lib.Dec.{eqb}
+use borrow.Author.Tests.{eqb-true}
+use Rattle.image.specs.Sum.{word, lowByte, highByte, sum}
+use Rattle.image.specs.Layout.{at, trailer}
+use Rattle.image.specs.Find.{lastBytes, trailerOf, bodyOf, marked}
+use Rattle.image.proofs.Laws.Tests.{and-true}
+use Rattle.image.proofs.Laws.Lists.{listed, take-listed, Below, below-drop}
+use Rattle.image.proofs.Laws.Sum.{sum-below, word-of-bytes, low-of-word, high-of-word}
+use Rattle.image.proofs.Laws.Find.{Sealed, length-bodyOf}
+
+-- ---- lastBytes
+pub lastBytes-append : (front l : List ℕ) (n : ℕ) → length l ≡ n → lastBytes n (front ++ l) ≡ l
+lastBytes-append front l n h =
+    let before : length front ≡ length (front ++ l) - n = omega (arith, length-append front l) in
+    drop-at front l (length (front ++ l) - n) before
+
+-- ---- a body and its trailer behind other bytes
+module _ (edition n : ℕ) (front b : List ℕ) (long : length b ≡ n) where
+  length-sealed : length (b ++ trailer edition b) ≡ n + 8
+  unfolding trailer
+  length-sealed = length-append b (trailer edition b) ∙ ap (λ (k : ℕ). k + 8) long
+
+  trailerOf-sealed : trailerOf (front ++ (b ++ trailer edition b)) ≡ trailer edition b
+  unfolding trailer
+  trailerOf-sealed =
+      ap trailerOf (sym (append-assoc front b (trailer edition b))) ∙ lastBytes-append (front ++ b) (trailer edition b) 8 refl
+
+  pub bodyOf-sealed : bodyOf n (front ++ (b ++ trailer edition b)) ≡ b
+  bodyOf-sealed =
+      ap (take n) (lastBytes-append front (b ++ trailer edition b) (n + 8) length-sealed) ∙ take-at b (trailer edition b) n long
+
+  pub sealed-trailer : n < 65536 → Sealed edition n (front ++ (b ++ trailer edition b))
+  unfolding trailer
+  sealed-trailer small =
+      record {
+        room = omega (arith, length-append front (b ++ trailer edition b), length-sealed);
+        mark = ap marked trailerOf-sealed;
+        number = ap (λ (t : List ℕ). at t 4) trailerOf-sealed;
+        distance = ap (λ (t : List ℕ). word (at t 0) (at t 1)) trailerOf-sealed ∙ word-of-bytes (length b) (omega arith) ∙ long;
+        total =
+            ap (λ (t : List ℕ). word (at t 2) (at t 3)) trailerOf-sealed
+            ∙ word-of-bytes (sum b) (sum-below b)
+            ∙ ap sum (sym bodyOf-sealed);
+      }
+
+-- ---- and the other way round
+module _ (edition n : ℕ) (bytes : List ℕ) (s : Sealed edition n bytes) where
+  lastBytes-parts : lastBytes (n + 8) bytes ≡ bodyOf n bytes ++ trailerOf bytes
+  lastBytes-parts =
+      let l = lastBytes (n + 8) bytes in
+      let start : length bytes - (n + 8) + n ≡ length bytes - 8 = omega (arith, s .room) in
+      sym (take-append-drop n l)
+      ∙ ap (λ (r : List ℕ). bodyOf n bytes ++ r) (drop-drop n (length bytes - (n + 8)) bytes ∙ ap (λ (k : ℕ). drop k bytes) start)
+
+  trailerOf-listed : trailerOf bytes ≡ listed 0 8 (trailerOf bytes)
+  trailerOf-listed =
+      let eight : length (trailerOf bytes) ≡ 8 = length-drop (length bytes - 8) bytes ∙ omega (arith, s .room) in
+      sym (take-all 8 (trailerOf bytes) (omega arith)) ∙ take-listed 0 8 (trailerOf bytes) (omega arith)
+
+  trailerOf-trailer : Below 256 bytes → trailerOf bytes ≡ trailer edition (bodyOf n bytes)
+  unfolding trailer
+  trailerOf-trailer bound =
+      let t = trailerOf bytes in
+      let b = bodyOf n bytes in
+      let low : Below 256 t = below-drop 256 (length bytes - 8) bytes bound in
+      let size : word (at t 0) (at t 1) ≡ length b = s .distance ∙ sym (length-bodyOf n bytes (s .room)) in
+      let m1 = and-true (eqb (at t 5) 0x4B) _ (s .mark) in
+      let m2 = and-true (eqb (at t 6) 0x42) _ (m1 .1) in
+      let e0 : at t 0 ≡ lowByte (length b) = sym (low-of-word (at t 0) (at t 1) (low 0)) ∙ ap lowByte size in
+      let e1 : at t 1 ≡ highByte (length b) = sym (high-of-word (at t 0) (at t 1) (low 0) (low 1)) ∙ ap highByte size in
+      let e2 : at t 2 ≡ lowByte (sum b) = sym (low-of-word (at t 2) (at t 3) (low 2)) ∙ ap lowByte (s .total) in
+      let e3 : at t 3 ≡ highByte (sum b) = sym (high-of-word (at t 2) (at t 3) (low 2) (low 3)) ∙ ap highByte (s .total) in
+      let e5 : at t 5 ≡ 0x4B = eqb-true (at t 5) 0x4B (m1 .0) in
+      let e6 : at t 6 ≡ 0x42 = eqb-true (at t 6) 0x42 (m2 .0) in
+      let e7 : at t 7 ≡ 0x43 = eqb-true (at t 7) 0x43 (m2 .1) in
+      let all : listed 0 8 t ≡ trailer edition b = λ i. e0 i ∷ e1 i ∷ e2 i ∷ e3 i ∷ s .number i ∷ e5 i ∷ e6 i ∷ e7 i ∷ [] in
+      trailerOf-listed ∙ all
+
+  -- the last bytes are the body with its trailer
+  pub lastBytes-sealed : Below 256 bytes → lastBytes (n + 8) bytes ≡ bodyOf n bytes ++ trailer edition (bodyOf n bytes)
+  lastBytes-sealed bound = lastBytes-parts ∙ ap (λ (r : List ℕ). bodyOf n bytes ++ r) (trailerOf-trailer bound)

@@ -1,0 +1,27 @@
+-- `trailer` meets its contract: the sum is what the callee ensures, and the other bytes are the definition's own. Assumes nothing.
+use borrow.Author.Needs.{needs}
+use Rattle.image.specs.Layout.{trailer}
+use Rattle.image.proofs.layout.trailer.Statement.{statement}
+use Rattle.image.proofs.layout.trailer.Tie as tie
+
+sum-requires : tie.Need-sum-requires
+sum-requires c κs = search needs
+
+cast-t6 : tie.Need-cast-t6
+cast-t6 c = search needs
+
+cast-t9 : tie.Need-cast-t9
+cast-t9 c = search needs
+
+cast-t11 : tie.Need-cast-t11
+cast-t11 c = search needs
+
+cast-t14 : tie.Need-cast-t14
+cast-t14 c = search needs
+
+returns : tie.Need-returns
+unfolding trailer
+returns c = simp (c .sum .ensures)
+
+pub trailer-spec : {M : Type 1} → statement M
+trailer-spec = tie.close (tie.spec sum-requires cast-t6 cast-t9 cast-t11 cast-t14 returns)

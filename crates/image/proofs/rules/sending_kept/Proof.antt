@@ -1,0 +1,30 @@
+-- `sending_kept` meets its contract: each way through its tests is a case of the definition. Assumes nothing.
+use mathlib.Core.Path.{sym, _∙_}
+use borrow.Author.Tests.{le-leb, lt-leb, eq-eqb, ne-eqb}
+use borrow.Author.Needs.{needs}
+use Rattle.image.specs.Rules.{sendingKept}
+use Rattle.image.proofs.Laws.Tests.{and-passed, and-failed, cond-true, cond-false}
+use Rattle.image.proofs.rules.sending_kept.Statement.{statement}
+use Rattle.image.proofs.rules.sending_kept.Tie as tie
+
+shared-slice-read-to : tie.Need-shared-slice-read-to
+shared-slice-read-to c = search needs
+
+shared-slice-read-sent : tie.Need-shared-slice-read-sent
+shared-slice-read-sent c = search needs
+
+returns : tie.Need-returns
+unfolding sendingKept
+returns c = sym (and-failed _ _ (lt-leb _ _ (c .if1 .taken)))
+
+returns-2 : tie.Need-returns-2
+unfolding sendingKept
+returns-2 c = sym (and-passed _ _ (le-leb _ _ (c .before .if1 .left)) ∙ cond-true _ _ _ (eq-eqb _ _ (c .if2 .taken)))
+
+returns-3 : tie.Need-returns-3
+unfolding sendingKept
+returns-3 c = sym (and-passed _ _ (le-leb _ _ (c .before .if1 .left)) ∙ cond-false _ _ _ (ne-eqb _ _ (c .if2 .left)))
+
+pub sending-kept-spec : {M : Type 1} → statement M
+sending-kept-spec =
+    tie.close (tie.spec shared-slice-read-to shared-slice-read-sent returns returns-2 returns-3)

@@ -1,0 +1,17 @@
+-- "Saved image", a load: checks 10 and 11, and the machine after it.
+use Prim.Native.Nat.{ℕ}
+use mathlib.Core.Bool.{cond}
+use mathlib.Core.List.{List}
+use lib.Dec.{eqb}
+use Rattle.machine.specs.State.{Machine}
+use Rattle.image.specs.Layout.{bodyLength, machineOf}
+use Rattle.image.specs.Find.{ends, found}
+use Rattle.image.specs.Rules.{bodyKept}
+
+-- Check 10: under 68 bytes, or mark, edition, distance or sum is wrong. Check 11: the body breaks a body rule.
+unfoldable pub loadRefusal : List ℕ → ℕ
+loadRefusal bytes = cond (ends 1 bodyLength bytes) (cond (bodyKept (found bytes)) 0 11) 10
+
+-- The machine of the body; a refused load leaves the machine as it was.
+unfoldable pub loaded : Machine → List ℕ → Machine
+loaded m bytes = cond (eqb (loadRefusal bytes) 0) (machineOf (found bytes)) m

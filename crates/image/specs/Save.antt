@@ -1,0 +1,16 @@
+-- "Saved image", a save: check 9, and the bytes that the caller lent.
+use Prim.Native.Nat.{ℕ}
+use mathlib.Core.Bool.{cond}
+use mathlib.Core.List.{List, _++_}
+use lib.ListN.{length, drop}
+use lib.Dec.{ltb}
+use Rattle.machine.specs.State.{Machine}
+use Rattle.image.specs.Layout.{imageLength, image}
+
+-- Check 9: under 68 bytes of space.
+unfoldable pub saveRefusal : List ℕ → ℕ
+saveRefusal space = cond (ltb (length space) imageLength) 9 0
+
+-- A save writes the first 68 bytes; those past them stay, and a refused one writes nothing.
+unfoldable pub saved : Machine → List ℕ → List ℕ
+saved m space = cond (ltb (length space) imageLength) space (image m ++ drop imageLength space)

@@ -1,0 +1,50 @@
+// The image at the end of a caller's bytes.
+use crate::layout::BODY;
+use crate::layout::EDITION;
+use crate::layout::TRAILER;
+use crate::sum::sum;
+use crate::sum::word;
+ghost use mathlib.Core.Path.{_≡_};
+ghost use Prim.Native.Nat.{_+_, _≤_};
+ghost use lib.ListN.{length, drop};
+ghost use Rattle.image.specs.Find as spec;
+
+// The mark of a trailer that starts at `at`.
+fn marked(bytes: &[u8], at: usize) -> bool
+    requires { ⌜ at + 8 ≤ length (now bytes) ⌝ }
+    ensures { λ r. ⌜ r ≡ spec.marked (drop at (now (bytes .entry))) ⌝ }
+{
+    (bytes[at + 5] == 0x4B) & ((bytes[at + 6] == 0x42) & (bytes[at + 7] == 0x43))
+}
+
+// Whether the bytes end in an image of this edition, whose body has `size` bytes.
+fn ends(bytes: &[u8], edition: u8, size: usize) -> bool
+    ensures { λ r. ⌜ r ≡ spec.ends edition size (now (bytes .entry)) ⌝ }
+{
+    let n = bytes.len();
+    if n < TRAILER {
+        return false;
+    }
+    let at = n - TRAILER;
+    if at < size {
+        return false;
+    }
+    let start = at - size;
+    let distance = word(bytes[at], bytes[at + 1]) as usize;
+    let stored = word(bytes[at + 2], bytes[at + 3]);
+    let total = sum(&bytes[start..at]);
+    marked(bytes, at) & ((bytes[at + 4] == edition) & ((distance == size) & (stored == total)))
+}
+
+// The body that the trailer points back to, as a part of the caller's bytes; no bytes where check 10 stands.
+pub fn find(bytes: &[u8]) -> &[u8]
+    ensures { λ r. ⌜ now r ≡ spec.found (now (bytes .entry)) ⌝ }
+{
+    if !ends(bytes, EDITION, BODY) {
+        return &bytes[..0];
+    }
+    let at = bytes.len() - TRAILER;
+    let distance = word(bytes[at], bytes[at + 1]) as usize;
+    let start = at - distance;
+    &bytes[start..at]
+}

@@ -1,0 +1,18 @@
+-- Every row of the table of worked examples holds: the machine of the definitions, run from fresh on the row's events, computes to what
+-- the row says. Assumes nothing.
+use mathlib.Core.Path.{_≡_, refl}
+use mathlib.Core.Bool.{true}
+use Rattle.translation.specs.Frames.{check, ones, frame}
+use Rattle.translation.specs.ScanCodes.{translate, raw, builtIn, rows}
+use Rattle.machine.specs.State.{fresh}
+use Rattle.machine.specs.Lines.{nibble, highNibble, status, putCell}
+use Rattle.machine.specs.DataPort.{plainData, loadByte, writeData}
+use Rattle.machine.specs.Commands.{pendingOf, loadCut, plainCommand, codeAsked, lockedUp, acts, writeCommand}
+use Rattle.machine.specs.Frames.{keyError, advanced, try, keyedByte, keyed, translated, soundKey, keyboardFrame}
+use Rattle.machine.specs.Events.{stateRefusal, refusal, accept, step, reply}
+use Rattle.machine.specs.Run.{after}
+use Rattle.machine.specs.Worked.{holds, allHold, table}
+
+pub worked : allHold table ≡ true
+unfolding check ones frame translate raw builtIn rows fresh nibble highNibble status putCell plainData loadByte writeData pendingOf loadCut plainCommand codeAsked lockedUp acts writeCommand keyError advanced try keyedByte keyed translated soundKey keyboardFrame stateRefusal refusal accept step reply after holds allHold table
+worked = refl

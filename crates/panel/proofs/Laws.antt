@@ -1,0 +1,2 @@
+-- Laws of what the calls on images promise.
+pub mod Resumed

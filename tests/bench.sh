@@ -1,0 +1,30 @@
+#!/bin/sh
+# Counts the instructions that one event costs, in the library and in the
+# model, with both in the same process. Needs valgrind.
+set -eu
+cd "$(dirname "$0")"
+cargo build --quiet --release --package bench
+program=../target/rust/release/bench
+work=$(mktemp -d)
+trap 'rm -r "$work"' EXIT
+
+# inclusive FUNCTION: what all calls to it cost, callees included
+inclusive() {
+    awk -v callee="cfn=$1" '
+        $0 == callee { wanted = 1; next }
+        /^calls=/ { if (wanted) { getline; sum += $NF }; wanted = 0 }
+        END { printf "%d\n", sum }' "$work/profile"
+}
+
+printf '%-10s %8s %18s %16s %7s\n' case events 'library per event' 'model per event' ratio
+for name in mix-1 mix-70 mix-700 mix-7000 tries refused; do
+    events=$(valgrind --quiet --tool=callgrind --compress-strings=no --compress-pos=no \
+        --callgrind-out-file="$work/profile" "$program" "$name")
+    awk -v name="$name" -v events="$events" \
+        -v library="$(inclusive measured_library)" -v model="$(inclusive measured_model)" '
+        BEGIN {
+            if (library == 0 || model == 0) { print name ": no calls seen"; exit 1 }
+            printf "%-10s %8d %18.1f %16.1f %7.2f\n",
+                name, events, library / events, model / events, library / model
+        }'
+done

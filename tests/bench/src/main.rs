@@ -1,0 +1,53 @@
+//! Runs one case of the benchmark in the library and in the model.
+//!
+//! `bench CASE` prints the number of events run by each of the two, for a
+//! profiler around it to divide by. `bench stack WHO` makes a single run.
+
+mod cases;
+mod measured;
+
+use cases::Case;
+use std::process::ExitCode;
+
+/// Events run in all, so that a list of one is repeated the most.
+const TOTAL_EVENTS: usize = 28_000;
+
+fn profile(case: &Case) {
+    case.check();
+    let events = case.list.len() / 3;
+    let repeats = TOTAL_EVENTS / events;
+    let mut by_library = vec![0; events * 9];
+    let mut by_model = by_library.clone();
+    for _ in 0..repeats {
+        assert_eq!(measured::measured_library(&case.list, &mut by_library), 0);
+        assert_eq!(measured::measured_model(&case.list, &mut by_model), 0);
+    }
+    assert!(by_library == by_model, "answers differ");
+    println!("{}", repeats * events);
+}
+
+/// One full list on the main thread, whose stack the caller has limited.
+fn use_stack(who: &str) {
+    let list = cases::mix(7_000).list;
+    let mut answers = vec![0; list.len() * 3];
+    let refusal = match who {
+        "library" => measured::measured_library(&list, &mut answers),
+        "model" => measured::measured_model(&list, &mut answers),
+        _ => 0,
+    };
+    assert_eq!(refusal, 0);
+}
+
+fn main() -> ExitCode {
+    let arguments: Vec<String> = std::env::args().skip(1).collect();
+    let words: Vec<&str> = arguments.iter().map(String::as_str).collect();
+    match words[..] {
+        ["stack", who] => use_stack(who),
+        [name] => match cases::by_name(name) {
+            Some(case) => profile(&case),
+            None => return ExitCode::FAILURE,
+        },
+        _ => return ExitCode::FAILURE,
+    }
+    ExitCode::SUCCESS
+}

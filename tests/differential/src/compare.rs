@@ -1,0 +1,97 @@
+//! The same call to the library and to the model.
+
+use crate::guarded::Guarded;
+use crate::random::Random;
+use model::{ANSWER_SIZE, EVENT_SIZE, IMAGE_SIZE};
+
+/// What a run wrote, by the model; empty when it was refused.
+pub struct Written {
+    pub refusal: u8,
+    pub answers: Vec<u8>,
+    pub saved: Vec<u8>,
+}
+
+fn answers_size(list: &[u8]) -> usize {
+    list.len() / EVENT_SIZE * ANSWER_SIZE
+}
+
+/// Runs a list from fresh in both with an answer buffer of the given size.
+pub fn run(random: &mut Random, list: &[u8], room: usize) -> Written {
+    let mut answers = vec![0; room];
+    let refusal = model::run(list, &mut answers);
+    answers.truncate(if refusal == 0 { answers_size(list) } else { 0 });
+
+    let mut buffer = Guarded::new(random, room);
+    assert_eq!(
+        panel::run(list, buffer.inside()),
+        refusal,
+        "refusal of a list"
+    );
+    buffer.assert_begins(&answers, "answers");
+    Written {
+        refusal,
+        answers,
+        saved: Vec::new(),
+    }
+}
+
+/// Sizes of the two buffers that a run through images writes.
+#[derive(Clone, Copy)]
+pub struct Room {
+    pub answers: usize,
+    pub saved: usize,
+}
+
+impl Room {
+    /// Just enough, and a little more at random.
+    pub fn enough(random: &mut Random, list: &[u8]) -> Room {
+        Room {
+            answers: answers_size(list) + random.pick(&[0, 0, 1, 8, 9, 30]),
+            saved: IMAGE_SIZE + random.pick(&[0, 0, 1, 32]),
+        }
+    }
+}
+
+/// Runs a list from an image in both.
+pub fn run_image(random: &mut Random, image: &[u8], list: &[u8], room: Room) -> Written {
+    let mut answers = vec![0; room.answers];
+    let mut saved = vec![0; room.saved];
+    let refusal = model::run_image(image, list, &mut answers, &mut saved);
+    answers.truncate(if refusal == 0 { answers_size(list) } else { 0 });
+    saved.truncate(if refusal == 0 { IMAGE_SIZE } else { 0 });
+
+    let mut answer_buffer = Guarded::new(random, room.answers);
+    let mut save_buffer = Guarded::new(random, room.saved);
+    let result = panel::run_image(image, list, answer_buffer.inside(), save_buffer.inside());
+    assert_eq!(result, refusal, "refusal of a run from {image:02X?}");
+    answer_buffer.assert_begins(&answers, "answers of a run from an image");
+    save_buffer.assert_begins(&saved, "saved image");
+    Written {
+        refusal,
+        answers,
+        saved,
+    }
+}
+
+/// Looks for a body in both.
+pub fn find(bytes: &[u8]) {
+    let body = model::find(bytes);
+    let offset = body.as_ptr() as usize - bytes.as_ptr() as usize;
+    assert_eq!(panel::find(bytes), offset, "body in {bytes:02X?}");
+}
+
+/// Saves a fresh controller in both.
+pub fn fresh_image(random: &mut Random, room: usize) -> u8 {
+    let mut saved = vec![0; room];
+    let refusal = model::fresh_image(&mut saved);
+    saved.truncate(if refusal == 0 { IMAGE_SIZE } else { 0 });
+
+    let mut buffer = Guarded::new(random, room);
+    assert_eq!(
+        panel::fresh_image(buffer.inside()),
+        refusal,
+        "refusal of a save"
+    );
+    buffer.assert_begins(&saved, "fresh image");
+    refusal
+}

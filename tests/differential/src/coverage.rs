@@ -1,0 +1,105 @@
+//! Counts what generated lists really reach, so that tests can ask for it.
+
+use crate::event::{Event, kind};
+use model::{Controller, PASSWORD_LIMIT, Pending, Verdict, judge};
+
+#[derive(Clone, Debug)]
+pub struct Coverage {
+    pub events: usize,
+    pub refusals: [usize; 7],
+    pub accepted: [usize; 9],
+    pub commands: [usize; 256],
+    pub keyboard_bytes: [usize; 256],
+    pub code_lengths: [usize; PASSWORD_LIMIT + 1],
+    pub overlong_codes: usize,
+    pub abandoned_loads: usize,
+    pub locks: usize,
+    pub opens: usize,
+    /// The same by the length of the code.
+    pub opened_lengths: [usize; PASSWORD_LIMIT + 1],
+    pub wrong_tries: usize,
+    pub resets_by_damage: usize,
+    pub swallowed: usize,
+    pub overridden: usize,
+    pub overlays: usize,
+}
+
+impl Coverage {
+    pub fn new() -> Coverage {
+        Coverage {
+            events: 0,
+            refusals: [0; 7],
+            accepted: [0; 9],
+            commands: [0; 256],
+            keyboard_bytes: [0; 256],
+            code_lengths: [0; PASSWORD_LIMIT + 1],
+            overlong_codes: 0,
+            abandoned_loads: 0,
+            locks: 0,
+            opens: 0,
+            opened_lengths: [0; PASSWORD_LIMIT + 1],
+            wrong_tries: 0,
+            resets_by_damage: 0,
+            swallowed: 0,
+            overridden: 0,
+            overlays: 0,
+        }
+    }
+
+    /// Counts one event by its refusal and the states around it.
+    pub fn note(&mut self, before: &Controller, event: Event, refusal: u8, after: &Controller) {
+        self.events += 1;
+        self.refusals[usize::from(refusal)] += 1;
+        if refusal != 0 {
+            return;
+        }
+        self.accepted[usize::from(event.kind)] += 1;
+        match event.kind {
+            kind::WRITE_DATA => self.note_data(before, event, after),
+            kind::WRITE_COMMAND => self.note_command(before, event, after),
+            kind::KEYBOARD_FRAME => self.note_keyboard(before, event, after),
+            _ => {}
+        }
+    }
+
+    fn note_data(&mut self, before: &Controller, event: Event, after: &Controller) {
+        if before.pending != Pending::Password || after.pending == Pending::Password {
+            return;
+        }
+        if event.value == 0 {
+            self.code_lengths[after.password.len()] += 1;
+        } else {
+            self.overlong_codes += 1;
+        }
+    }
+
+    fn note_command(&mut self, before: &Controller, event: Event, after: &Controller) {
+        self.commands[usize::from(event.value)] += 1;
+        self.locks += usize::from(after.locked);
+        self.overlays += usize::from(after.overlay.is_some());
+        let had_some = before.pending == Pending::Password && !before.password.is_empty();
+        self.abandoned_loads += usize::from(had_some);
+    }
+
+    fn note_keyboard(&mut self, before: &Controller, event: Event, after: &Controller) {
+        let low_switch = before.pins & 0x80 == 0;
+        self.overridden += usize::from(low_switch && !before.inhibited() && after.full);
+        let Verdict::Sound(byte) = judge(event.value) else {
+            self.resets_by_damage += usize::from(before.position > 0);
+            return;
+        };
+        self.keyboard_bytes[usize::from(byte)] += 1;
+        self.swallowed += usize::from(before.locked && before.inhibited());
+        if before.locked && !after.locked {
+            self.opens += 1;
+            self.opened_lengths[after.password.len()] += 1;
+        }
+        self.wrong_tries += usize::from(before.position > 0 && after.locked && after.position == 0);
+    }
+}
+
+impl Default for Coverage {
+    fn default() -> Coverage {
+        Coverage::new()
+    }
+}

@@ -1,0 +1,97 @@
+//! Images that keep the body rules, drawn at random, and ways to mend sums.
+
+use crate::random::Random;
+use model::{BODY_SIZE, Controller, Device, IMAGE_SIZE, Password, Pending, mode, save};
+
+/// Writes the sum that the body of an image asks for.
+pub fn mend(image: &mut [u8]) {
+    let start = image.len() - IMAGE_SIZE;
+    let sum = model::word_sum(&image[start..start + BODY_SIZE]).to_le_bytes();
+    image[start + BODY_SIZE + 2..start + BODY_SIZE + 4].copy_from_slice(&sum);
+}
+
+fn pending(random: &mut Random) -> Pending {
+    match random.below(8) {
+        0 => Pending::None,
+        1 => Pending::Mode,
+        2 => Pending::Cell(random.byte_in(1..=31)),
+        3 => Pending::Password,
+        4 => Pending::OutputPort,
+        5 => Pending::Output,
+        6 => Pending::MouseOutput,
+        _ => Pending::SendToMouse,
+    }
+}
+
+fn device(random: &mut Random) -> Device {
+    random.pick(&[Device::Keyboard, Device::Mouse])
+}
+
+fn password(random: &mut Random) -> Password {
+    let mut password = Password::EMPTY;
+    for _ in 0..random.below(17) {
+        let last = if random.chance(95) { 0x7F } else { 0xFF };
+        password.push(random.byte_in(0x01..=last));
+    }
+    password
+}
+
+/// Locks where the rules allow it, with the keyboard mostly on.
+fn maybe_lock(state: &mut Controller, random: &mut Random) {
+    if state.password.is_empty() || random.chance(40) {
+        return;
+    }
+    state.locked = true;
+    state.pending = Pending::None;
+    state.sending = None;
+    state.position = random.below(state.password.len());
+    if random.chance(80) {
+        state.clear_mode(mode::KEYBOARD_OFF);
+    }
+}
+
+/// Any state that keeps the body rules, reachable by events or not.
+pub fn state(random: &mut Random) -> Controller {
+    let full = random.chance(50);
+    let mut ram = [0; 32];
+    ram.copy_from_slice(&random.bytes(32));
+    ram[0] &= 0x7F;
+    let mut state = Controller {
+        output: random.byte(),
+        full,
+        source: if full {
+            device(random)
+        } else {
+            Device::Keyboard
+        },
+        command_flag: random.chance(50),
+        timeout_error: random.chance(50),
+        parity_error: random.chance(50),
+        break_flag: random.chance(30),
+        locked: false,
+        pins: random.byte(),
+        latch_20: random.chance(50),
+        latch_21: random.chance(50),
+        pending: pending(random),
+        overlay: random.chance(30).then(|| random.byte_in(0..=15)),
+        sending: random.chance(30).then(|| (device(random), random.byte())),
+        password: password(random),
+        position: 0,
+        ram,
+    };
+    maybe_lock(&mut state, random);
+    state
+}
+
+/// An image behind other bytes.
+pub fn behind(random: &mut Random, image: &[u8; IMAGE_SIZE]) -> Vec<u8> {
+    let lead = random.pick(&[0, 0, 1, 2, 7, 60, 68, 200]);
+    let mut bytes = random.bytes(lead);
+    bytes.extend_from_slice(image);
+    bytes
+}
+
+/// A random sound image.
+pub fn image(random: &mut Random) -> [u8; IMAGE_SIZE] {
+    save(&state(random))
+}

@@ -1,0 +1,16 @@
+//! Generators of events and images, and comparison of the library with the
+//! model.
+
+pub mod compare;
+pub mod coverage;
+pub mod event;
+pub mod guarded;
+pub mod images;
+pub mod keys;
+pub mod lists;
+pub mod pairs;
+pub mod premise;
+pub mod random;
+pub mod rounds;
+pub mod unguided;
+pub mod walker;

@@ -1,0 +1,97 @@
+//! When two lists must be answered alike.
+
+use crate::event::{Event, kind};
+use model::{Controller, EVENT_SIZE, Pending, Verdict, judge};
+
+/// A nonzero byte written to port 60h.
+pub fn is_code_byte(event: Event) -> bool {
+    event.kind == kind::WRITE_DATA && (0x01..=0xFF).contains(&event.value)
+}
+
+/// A sound keyboard frame of a byte from 01h to 7Fh.
+pub fn is_plain_key(event: Event) -> bool {
+    event.kind == kind::KEYBOARD_FRAME && matches!(judge(event.value), Verdict::Sound(0x01..=0x7F))
+}
+
+/// True when two events may stand at one place, by the first list's state.
+pub fn may_pair(state: &Controller, first: Event, second: Event) -> bool {
+    let both = |test: fn(Event) -> bool| test(first) && test(second);
+    first == second
+        || state.pending == Pending::Password && both(is_code_byte)
+        || state.locked && both(is_plain_key)
+}
+
+/// Carries out an event; true when it opens the lock.
+pub fn opens(state: &mut Controller, event: Event) -> bool {
+    let was_locked = state.locked;
+    state.event(event.kind, event.value);
+    was_locked && !state.locked
+}
+
+/// True when the two lists differ only in secrets and open at the same places.
+pub fn comparable(first: &[u8], second: &[u8]) -> bool {
+    if first.len() != second.len() {
+        return false;
+    }
+    let mut first_state = Controller::fresh();
+    let mut second_state = Controller::fresh();
+    let places = first
+        .chunks_exact(EVENT_SIZE)
+        .zip(second.chunks_exact(EVENT_SIZE));
+    for (one, other) in places {
+        let (one, other) = (Event::from_bytes(one), Event::from_bytes(other));
+        if !may_pair(&first_state, one, other) {
+            return false;
+        }
+        if opens(&mut first_state, one) != opens(&mut second_state, other) {
+            return false;
+        }
+    }
+    true
+}
+
+#[cfg(test)]
+mod tests {
+    use super::*;
+
+    /// Switches the keyboard on, loads two bytes, locks and types two keys.
+    fn list(code: [u8; 2], keys: [u8; 2]) -> Vec<u8> {
+        [
+            Event::command(0xAE),
+            Event::command(0xA5),
+            Event::data(code[0]),
+            Event::data(code[1]),
+            Event::data(0),
+            Event::command(0xA6),
+            Event::key(keys[0]),
+            Event::key(keys[1]),
+        ]
+        .iter()
+        .flat_map(|event| event.to_bytes())
+        .collect()
+    }
+
+    #[test]
+    fn secrets_may_differ_where_the_lock_opens_alike() {
+        let opened = list([0x1E, 0x30], [0x1C, 0x32]);
+        assert!(comparable(&opened, &list([0x30, 0x1E], [0x32, 0x1C])));
+        assert!(!comparable(&opened, &list([0x1E, 0x30], [0x1C, 0x1C])));
+        assert!(!comparable(&opened, &list([0x30, 0x30], [0x1C, 0x32])));
+        assert!(comparable(
+            &list([1, 2], [3, 4]),
+            &list([0xFF, 0x80], [0x7F, 1])
+        ));
+    }
+
+    #[test]
+    fn nothing_else_may_differ() {
+        let base = list([0x11, 0x12], [0x01, 0x02]);
+        assert!(!comparable(&base, &list([0x11, 0x00], [0x01, 0x02])));
+        assert!(!comparable(&base, &list([0x11, 0x12], [0x01, 0xF0])));
+        assert!(!comparable(&base, &list([0x11, 0x12], [0x00, 0x02])));
+        assert!(!comparable(&base, &base[3..]));
+        let mut other_command = base.clone();
+        other_command[1] = 0xA8;
+        assert!(!comparable(&base, &other_command));
+    }
+}

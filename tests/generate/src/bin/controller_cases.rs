@@ -1,0 +1,85 @@
+//! Prints from the model what the proved program `controller_tests` has to print.
+
+use model::{ANSWER_SIZE, EVENT_SIZE, run};
+
+/// The cases are a file of that program, written so that it is Rust as well.
+mod cases {
+    include!("../../../../crates/controller_tests/src/cases.rt");
+}
+
+/// What an answer buffer holds before a run.
+const MARK: u8 = 0xA5;
+/// The program's buffer, of which a run is lent a part.
+const BUFFER_SIZE: usize = 63_027;
+
+fn parse(events: &[u8]) -> Vec<u8> {
+    let digits: Vec<u8> = events.iter().copied().filter(|&c| c != b' ').collect();
+    let byte = |pair: &[u8]| {
+        let text = std::str::from_utf8(pair).expect("digits");
+        u8::from_str_radix(text, 16).expect("two hexadecimal digits")
+    };
+    digits.chunks_exact(2).map(byte).collect()
+}
+
+fn hexadecimal(bytes: &[u8]) -> String {
+    let parts: Vec<String> = bytes.iter().map(|byte| format!("{byte:02X}")).collect();
+    parts.join(" ")
+}
+
+fn text(name: &[u8]) -> &str {
+    std::str::from_utf8(name).expect("a name")
+}
+
+/// A sum over bytes that goes by their order.
+fn digest(bytes: &[u8]) -> u16 {
+    let sum = bytes
+        .iter()
+        .fold(1u32, |sum, &byte| (sum * 31 + u32::from(byte)) % 65_521);
+    sum as u16
+}
+
+fn print_written(written: &[u8]) {
+    let sum = hexadecimal(&digest(written).to_be_bytes());
+    match written.chunks_exact(ANSWER_SIZE).last() {
+        Some(last) => println!(", sum {sum}, last {}", hexadecimal(last)),
+        None => println!(", sum {sum}, none"),
+    }
+}
+
+/// Some events over and over, of which `bytes` are run with `space` bytes for
+/// the answers.
+pub fn sized(name: &[u8], events: &[u8], bytes: usize, space: usize) {
+    let list: Vec<u8> = parse(events).into_iter().cycle().take(bytes).collect();
+    let mut answers = [MARK; BUFFER_SIZE];
+    let refusal = run(&list, &mut answers[..space]);
+    let accepted = if refusal == 0 { bytes / EVENT_SIZE } else { 0 };
+    let (written, rest) = answers.split_at(accepted * ANSWER_SIZE);
+    let kept = rest.iter().all(|&byte| byte == MARK);
+    let verdict = if kept { "untouched" } else { "touched" };
+    print!("{}: refusal {refusal:02X}, {verdict}", text(name));
+    if refusal == 0 {
+        print_written(written);
+    } else {
+        println!();
+    }
+}
+
+/// A few events, and each answer.
+pub fn case(name: &[u8], events: &[u8]) {
+    let list = parse(events);
+    let mut answers = vec![MARK; list.len() / EVENT_SIZE * ANSWER_SIZE];
+    assert_eq!(run(&list, &mut answers), 0);
+    println!("{}", text(name));
+    for answer in answers.chunks_exact(ANSWER_SIZE) {
+        println!("{}", hexadecimal(answer));
+    }
+}
+
+fn main() {
+    cases::sizes();
+    cases::refusals();
+    cases::reads();
+    cases::loads();
+    cases::lock();
+    cases::frames();
+}

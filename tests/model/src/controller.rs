@@ -1,0 +1,118 @@
+//! The controller's state and the few changes that many rules share.
+
+use crate::password::Password;
+
+#[derive(Clone, Copy, Debug, PartialEq, Eq)]
+pub enum Device {
+    Keyboard,
+    Mouse,
+}
+
+/// What the next byte written to port 60h is for.
+#[derive(Clone, Copy, Debug, PartialEq, Eq)]
+pub enum Pending {
+    None,
+    Mode,
+    Cell(u8),
+    Password,
+    OutputPort,
+    Output,
+    MouseOutput,
+    SendToMouse,
+}
+
+/// Bits of the command byte, which is RAM cell 0.
+pub mod mode {
+    pub const EKI: u8 = 1 << 0;
+    pub const EMI: u8 = 1 << 1;
+    pub const SYS: u8 = 1 << 2;
+    pub const INHIBIT_OVERRIDE: u8 = 1 << 3;
+    pub const KEYBOARD_OFF: u8 = 1 << 4;
+    pub const MOUSE_OFF: u8 = 1 << 5;
+    pub const TRANSLATE: u8 = 1 << 6;
+    pub const UNUSED: u8 = 1 << 7;
+}
+
+/// RAM cells with a meaning of their own.
+pub mod cell {
+    pub const MODE: usize = 0x00;
+    pub const LOCK_NOTICE: usize = 0x13;
+    pub const UNLOCK_NOTICE: usize = 0x14;
+    pub const IGNORED: [usize; 2] = [0x16, 0x17];
+}
+
+#[derive(Clone, Debug, PartialEq, Eq)]
+pub struct Controller {
+    pub output: u8,
+    pub full: bool,
+    pub source: Device,
+    pub command_flag: bool,
+    pub timeout_error: bool,
+    pub parity_error: bool,
+    pub break_flag: bool,
+    pub locked: bool,
+    pub pins: u8,
+    pub latch_20: bool,
+    pub latch_21: bool,
+    pub pending: Pending,
+    pub overlay: Option<u8>,
+    pub sending: Option<(Device, u8)>,
+    pub password: Password,
+    pub position: usize,
+    pub ram: [u8; 32],
+}
+
+impl Controller {
+    pub fn fresh() -> Controller {
+        let mut ram = [0; 32];
+        ram[cell::MODE] = mode::TRANSLATE | mode::MOUSE_OFF | mode::KEYBOARD_OFF;
+        Controller {
+            output: 0,
+            full: false,
+            source: Device::Keyboard,
+            command_flag: false,
+            timeout_error: false,
+            parity_error: false,
+            break_flag: false,
+            locked: false,
+            pins: 0xFF,
+            latch_20: true,
+            latch_21: true,
+            pending: Pending::None,
+            overlay: None,
+            sending: None,
+            password: Password::EMPTY,
+            position: 0,
+            ram,
+        }
+    }
+
+    pub fn mode(&self, bit: u8) -> bool {
+        self.ram[cell::MODE] & bit != 0
+    }
+
+    pub fn set_mode(&mut self, bits: u8) {
+        self.ram[cell::MODE] |= bits;
+    }
+
+    pub fn clear_mode(&mut self, bits: u8) {
+        self.ram[cell::MODE] &= !bits;
+    }
+
+    /// The key switch is closed and the mode does not override it.
+    pub fn inhibited(&self) -> bool {
+        self.pins & 0x80 == 0 && !self.mode(mode::INHIBIT_OVERRIDE)
+    }
+
+    /// Fills the output buffer; an unread byte is lost.
+    pub fn put(&mut self, byte: u8, source: Device) {
+        self.output = byte;
+        self.full = true;
+        self.source = source;
+    }
+
+    pub fn set_errors(&mut self, timeout: bool, parity: bool) {
+        self.timeout_error = timeout;
+        self.parity_error = parity;
+    }
+}

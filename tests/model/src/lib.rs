@@ -1,0 +1,31 @@
+//! A plain model of the 8042 keyboard controller in PS/2 mode.
+//!
+//! It follows the written rules and nothing else, and serves as the yardstick
+//! for the library under test.
+
+mod body;
+mod body_rules;
+mod command;
+mod controller;
+mod data;
+mod event;
+mod frame;
+mod image;
+mod lines;
+mod list;
+mod lock;
+mod password;
+mod receive;
+mod refusal;
+mod stored_run;
+mod translation;
+
+pub use body::BODY_SIZE;
+pub use body_rules::keeps_body_rules;
+pub use controller::{Controller, Device, Pending, cell, mode};
+pub use frame::{Verdict, frame, judge};
+pub use image::{IMAGE_SIZE, find, load, save, word_sum};
+pub use list::{ANSWER_SIZE, EVENT_SIZE, LIST_LIMIT, list_refusal, run};
+pub use password::{PASSWORD_LIMIT, Password};
+pub use stored_run::{fresh_image, run_image};
+pub use translation::{entry, translate};

@@ -1,0 +1,71 @@
+//! What the host sees: status, output port, and the answer built of them.
+
+use crate::controller::{Controller, Device, mode};
+use crate::frame::frame;
+use crate::list::ANSWER_SIZE;
+
+/// The part of an answer that only the event itself knows.
+#[derive(Clone, Copy, Default)]
+pub struct Outcome {
+    pub byte: u8,
+    pub old: bool,
+    pub pulse: u8,
+}
+
+fn bit(condition: bool, number: u8) -> u8 {
+    u8::from(condition) << number
+}
+
+impl Controller {
+    fn full_from(&self, device: Device) -> bool {
+        self.full && self.source == device
+    }
+
+    pub fn status(&self) -> u8 {
+        let low = bit(self.full, 0)
+            | bit(self.sending.is_some(), 1)
+            | bit(self.mode(mode::SYS), 2)
+            | bit(self.command_flag, 3);
+        let high = match self.overlay {
+            Some(nibble) => nibble << 4,
+            None => {
+                bit(self.pins & 0x80 != 0, 4)
+                    | bit(self.full_from(Device::Mouse), 5)
+                    | bit(self.timeout_error, 6)
+                    | bit(self.parity_error, 7)
+            }
+        };
+        low | high
+    }
+
+    /// P2. The interrupt lines follow the mode as it is now, not as it was
+    /// when the byte was put.
+    pub fn output_port(&self) -> u8 {
+        bit(self.latch_20, 0)
+            | bit(self.latch_21, 1)
+            | bit(self.mode(mode::MOUSE_OFF), 3)
+            | bit(self.full_from(Device::Keyboard) && self.mode(mode::EKI), 4)
+            | bit(self.full_from(Device::Mouse) && self.mode(mode::EMI), 5)
+            | bit(self.mode(mode::KEYBOARD_OFF), 6)
+    }
+
+    pub fn answer(&self, refusal: u8, outcome: Outcome) -> [u8; ANSWER_SIZE] {
+        let (destination, sent) = match self.sending {
+            None => (0, 0),
+            Some((Device::Keyboard, byte)) => (1, frame(byte)),
+            Some((Device::Mouse, byte)) => (2, frame(byte)),
+        };
+        let [low, high] = sent.to_le_bytes();
+        [
+            refusal,
+            outcome.byte,
+            u8::from(outcome.old),
+            self.status(),
+            self.output_port(),
+            outcome.pulse,
+            destination,
+            low,
+            high,
+        ]
+    }
+}

@@ -1,0 +1,68 @@
+//! Frames that arrive from the keyboard and the mouse.
+
+use crate::controller::{Controller, Device, mode};
+use crate::frame::{Verdict, judge};
+use crate::translation::translate;
+
+/// Put in place of a byte that arrived damaged.
+const DAMAGED: u8 = 0xFF;
+
+impl Controller {
+    /// Notes the errors of a frame; the byte of a sound one.
+    fn check_frame(&mut self, frame: u16) -> Option<u8> {
+        let verdict = judge(frame);
+        self.set_errors(verdict == Verdict::Broken, verdict == Verdict::WrongParity);
+        match verdict {
+            Verdict::Sound(byte) => Some(byte),
+            _ => None,
+        }
+    }
+
+    pub(crate) fn keyboard_frame(&mut self, frame: u16) {
+        match self.check_frame(frame) {
+            Some(byte) => self.keyboard_byte(byte),
+            None => self.keyboard_damage(),
+        }
+    }
+
+    /// A damaged frame ends a break sequence and a run of tries, locked or not.
+    fn keyboard_damage(&mut self) {
+        self.break_flag = false;
+        self.position = 0;
+        if !self.locked && !self.inhibited() {
+            self.put(DAMAGED, Device::Keyboard);
+        }
+    }
+
+    fn keyboard_byte(&mut self, byte: u8) {
+        let Some(code) = self.scan_code(byte) else {
+            return;
+        };
+        if self.inhibited() {
+            return;
+        }
+        if self.locked {
+            self.try_code(code);
+        } else {
+            self.put(code, Device::Keyboard);
+        }
+    }
+
+    /// A locked controller always translates, since the password is in set 1.
+    fn scan_code(&mut self, byte: u8) -> Option<u8> {
+        if !self.mode(mode::TRANSLATE) && !self.locked {
+            self.break_flag = false;
+            return Some(byte);
+        }
+        let (code, break_flag) = translate(byte, self.break_flag);
+        self.break_flag = break_flag;
+        code
+    }
+
+    pub(crate) fn mouse_frame(&mut self, frame: u16) {
+        let byte = self.check_frame(frame).unwrap_or(DAMAGED);
+        if !self.locked {
+            self.put(byte, Device::Mouse);
+        }
+    }
+}

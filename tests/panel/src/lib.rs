@@ -1,0 +1,69 @@
+//! Safe calls into the static library under test.
+
+mod ffi;
+
+/// What `judge` answers for a frame that is not sound.
+pub const WRONG_PARITY: u16 = 256;
+pub const BROKEN: u16 = 257;
+
+/// Runs a list from fresh and hands back the refusal number.
+pub fn run(list: &[u8], answers: &mut [u8]) -> u8 {
+    // SAFETY: each pointer comes with the length of its own slice.
+    unsafe {
+        ffi::calugnid_run(
+            list.as_ptr(),
+            list.len(),
+            answers.as_mut_ptr(),
+            answers.len(),
+        )
+    }
+}
+
+/// Loads an image, runs a list, saves, and hands back the refusal number.
+pub fn run_image(image: &[u8], list: &[u8], answers: &mut [u8], saved: &mut [u8]) -> u8 {
+    // SAFETY: each pointer comes with the length of its own slice, and the
+    // slices cannot overlap where one is written.
+    unsafe {
+        ffi::calugnid_run_image(
+            image.as_ptr(),
+            image.len(),
+            list.as_ptr(),
+            list.len(),
+            answers.as_mut_ptr(),
+            answers.len(),
+            saved.as_mut_ptr(),
+            saved.len(),
+        )
+    }
+}
+
+/// The offset of the image's body, or the length of `image` without one.
+pub fn find(image: &[u8]) -> usize {
+    // SAFETY: the pointer comes with the length of its slice.
+    unsafe { ffi::calugnid_find(image.as_ptr(), image.len()) }
+}
+
+/// Saves a fresh controller and hands back the refusal number.
+pub fn fresh_image(saved: &mut [u8]) -> u8 {
+    // SAFETY: the pointer comes with the length of its slice.
+    unsafe { ffi::calugnid_fresh_image(saved.as_mut_ptr(), saved.len()) }
+}
+
+/// The byte of a sound frame, `WRONG_PARITY` or `BROKEN`.
+pub fn judge(frame: u16) -> u16 {
+    // SAFETY: only a number is passed.
+    unsafe { ffi::calugnid_judge(frame) }
+}
+
+/// The frame that carries a byte.
+pub fn frame(byte: u8) -> u16 {
+    // SAFETY: only a number is passed.
+    unsafe { ffi::calugnid_frame(byte) }
+}
+
+/// What a byte yields in bits 0-7, whether it yields at all in bit 8, and the
+/// break flag afterwards in bit 9.
+pub fn translate(byte: u8, break_flag: bool) -> u16 {
+    // SAFETY: only a number and a truth value are passed.
+    unsafe { ffi::calugnid_translate(byte, break_flag) }
+}
