@@ -8,6 +8,7 @@ rt staticlib panel
 (cd tests && cargo test --quiet --release "$@")
 (cd tests && cargo run --quiet --release --package generate --bin frames_table) | cmp - crates/translation_tests/stdout
 (cd tests && cargo run --quiet --release --package generate --bin controller_cases) | cmp - crates/controller_tests/stdout
+(cd tests && cargo run --quiet --release --package generate --bin image_cases) | cmp - crates/image_tests/stdout
 cc -std=c11 -Wall -Wextra -Werror -Iinclude examples/self_test.c target/staticlib/libpanel.a -o target/self_test
 target/self_test | cmp - examples/self_test.expected
 echo "the tests from outside pass"

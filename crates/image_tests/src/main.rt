@@ -1,0 +1,320 @@
+// Saves and loads at their edges. Each line has a name, the refusal, and the sum of the bytes that came of it: of a save the space that was lent,
+// of a load the image of the state that came back.
+use image::find::find;
+use image::load::load;
+use image::save::save;
+use libc::STDOUT_FILENO;
+use machine::state::Controller;
+use machine::state::Errors;
+use machine::state::Host;
+use machine::state::Lock;
+use machine::state::Output;
+use machine::state::Ports;
+use machine::state::Sending;
+use machine::state::start;
+use std::num::wrapping_add_u16;
+
+// What a space holds before a save.
+const FILL: u8 = 0xEE;
+
+// How many bodies are tried.
+const BODIES: usize = 43;
+
+// Bytes of a body and the values that they take: two of each in a row, or one twice.
+const TRIED: [u32; 43] = [
+    0x01_00_01_00, // no flag
+    0x01_03_01_03, // mouse source and OBF
+    0x01_80_01_80, // flags bit 7
+    0x01_02_01_02, // mouse source, OBF 0
+    0x03_03_03_03, // both latches
+    0x03_04_03_04, // latches bit 2
+    0x03_80_03_80, // latches bit 7
+    0x04_07_04_07, // pending 7
+    0x04_08_04_08, // pending 8
+    0x04_02_05_00, // code 2, no cell
+    0x04_02_05_01, // code 2, cell 1
+    0x04_02_05_1F, // code 2, cell 31
+    0x04_02_05_20, // code 2, cell 32
+    0x04_01_05_01, // code 1 with a cell
+    0x05_01_05_01, // no code, with a cell
+    0x06_01_07_00, // overlay 0
+    0x06_01_07_0F, // overlay 15
+    0x06_01_07_10, // overlay 16
+    0x06_02_07_00, // overlay present is 2
+    0x06_00_07_01, // nibble with no overlay
+    0x08_01_09_00, // 0 to the keyboard
+    0x08_02_09_FF, // 255 to the mouse
+    0x08_03_09_00, // destination 3
+    0x08_00_09_01, // a byte to nobody
+    0x0A_00_0C_00, // bytes after no lock code
+    0x0A_02_0E_00, // lock code of two
+    0x0A_02_0E_09, // a byte after two
+    0x0A_04_0F_09, // lock code of four
+    0x0A_04_0F_00, // lock code of four, the last 0
+    0x0C_00_0C_00, // lock code that starts with 0
+    0x0F_09_0F_09, // a byte after three
+    0x1B_01_1B_01, // a byte at the end of the field
+    0x0B_01_0B_01, // position, not locked
+    0x01_40_0B_00, // locked at 0
+    0x01_40_0B_02, // locked at 2
+    0x01_40_0B_03, // locked at the length
+    0x01_40_0B_04, // locked past the length
+    0x01_40_04_01, // locked with a pending code
+    0x01_40_08_01, // locked while sending
+    0x1C_7F_1C_7F, // mode 7F
+    0x1C_80_1C_80, // mode bit 7
+    0x1C_FF_1C_FF, // mode FF
+    0x3B_FF_3B_FF, // the last cell
+];
+
+// A lock code of sixteen bytes, of three, or of none.
+fn code(n: u8) -> [u8; 16] {
+    if n == 16 {
+        return [0x1E; 16];
+    }
+    let mut code = [0u8; 16];
+    if n == 3 {
+        code[0] = 0x1E;
+        code[1] = 0x1E;
+        code[2] = 0x1E;
+    }
+    code
+}
+
+// A state with something in each of its parts, and a lock code of n bytes.
+fn sample(n: u8) -> Controller {
+    let code = code(n);
+    let mut ram = [0u8; 32];
+    ram[0] = 0x65;
+    ram[19] = 0x55;
+    ram[31] = 0xFF;
+    Controller {
+        output: Output {
+            byte: 0x41,
+            full: true,
+            mouse: false,
+        },
+        errors: Errors {
+            timeout: false,
+            parity: true,
+        },
+        host: Host {
+            command: true,
+            pending: 0,
+            cell: 0,
+            overlay: false,
+            nibble: 0,
+        },
+        ports: Ports {
+            pins: 0xA5,
+            p20: true,
+            p21: false,
+        },
+        sending: Sending { to: 0, byte: 0 },
+        breaks: true,
+        lock: Lock {
+            locked: false,
+            length: n,
+            position: 0,
+            code,
+        },
+        ram,
+    }
+}
+
+// Its image.
+fn image_of(n: u8) -> [u8; 68] {
+    let mut image = [0u8; 68];
+    save(sample(n), &mut image);
+    image
+}
+
+fn word(low: u8, high: u8) -> u16 {
+    low as u16 + 256 * (high as u16)
+}
+
+// The bytes added up.
+fn added(bytes: &[u8]) -> u64 {
+    let mut total: u16 = 0;
+    let mut i = 0;
+    while i < bytes.len() {
+        total = wrapping_add_u16(total, word(bytes[i], 0));
+        i += 1;
+    }
+    total as u64
+}
+
+fn number(n: u64) {
+    io::write_all(STDOUT_FILENO, b" ");
+    io::print_decimal(STDOUT_FILENO, n);
+}
+
+fn byte(x: u8) {
+    number(x as u64);
+}
+
+fn line(refusal: u8, bytes: &[u8]) {
+    byte(refusal);
+    number(added(bytes));
+    io::write_all(STDOUT_FILENO, b"\n");
+}
+
+fn try_save(out: &mut [u8]) {
+    io::write_all(STDOUT_FILENO, b"save");
+    number(out.len() as u64);
+    let refusal = save(sample(3), out);
+    line(refusal, out);
+}
+
+fn try_load(bytes: &[u8]) {
+    let loaded = load(start(), bytes);
+    let state = loaded.state;
+    let mut out = [0u8; 68];
+    save(state, &mut out);
+    line(loaded.refusal, &out);
+}
+
+// An image with the sum of its body put right.
+fn summed(mut image: [u8; 68]) -> [u8; 68] {
+    let mut total: u16 = 0;
+    let mut i = 0;
+    while i < 30 {
+        total = wrapping_add_u16(total, word(image[2 * i], image[2 * i + 1]));
+        i += 1;
+    }
+    image[62] = (total % 256) as u8;
+    image[63] = (total / 256) as u8;
+    image
+}
+
+// An image with one byte replaced.
+fn with_byte(mut image: [u8; 68], k: u8, v: u8) -> [u8; 68] {
+    let at = k as usize;
+    if at < 68 {
+        image[at] = v;
+    }
+    image
+}
+
+// Another byte than x, unless x is 198.
+fn other(x: u8) -> u8 {
+    x / 2 + 99
+}
+
+fn try_saves() {
+    let mut short = [FILL; 67];
+    try_save(&mut short);
+    let mut whole = [FILL; 68];
+    try_save(&mut whole);
+    let mut long = [FILL; 72];
+    try_save(&mut long);
+}
+
+// An image behind 31 bytes and before one.
+fn placed(image: [u8; 68]) -> [u8; 100] {
+    let mut bytes = [FILL; 100];
+    let mut i = 0;
+    while i < 68 {
+        bytes[31 + i] = image[i];
+        i += 1;
+    }
+    bytes
+}
+
+// The image by itself, cut short, behind other bytes, and before one.
+fn try_places(bytes: &[u8]) {
+    if bytes.len() < 100 {
+        return;
+    }
+    io::write_all(STDOUT_FILENO, b"load whole");
+    try_load(&bytes[31..99]);
+    io::write_all(STDOUT_FILENO, b"load short");
+    try_load(&bytes[32..99]);
+    io::write_all(STDOUT_FILENO, b"load behind");
+    try_load(&bytes[0..99]);
+    io::write_all(STDOUT_FILENO, b"load before");
+    try_load(bytes);
+    io::write_all(STDOUT_FILENO, b"find");
+    let body = find(&bytes[0..99]);
+    number(body.len() as u64);
+    number(added(body));
+    io::write_all(STDOUT_FILENO, b"\n");
+}
+
+// A byte of the trailer changed.
+fn try_trailer(image: [u8; 68], k: u8) {
+    let at = k as usize;
+    if at < 68 {
+        let changed = with_byte(image, k, other(image[at]));
+        io::write_all(STDOUT_FILENO, b"trailer");
+        byte(k);
+        try_load(&changed);
+    }
+}
+
+fn try_trailers(image: [u8; 68]) {
+    let mut i: u8 = 60;
+    while i < 68 {
+        try_trailer(image, i);
+        i += 1;
+    }
+}
+
+// The low byte of a row.
+fn part(row: u32) -> u8 {
+    (row % 256) as u8
+}
+
+// A body whose sum is right.
+fn try_body(image: [u8; 68], i: usize) {
+    if i < BODIES {
+        let row = TRIED[i];
+        let k = part(row / 0x100_0000);
+        let v = part(row / 0x1_0000);
+        let l = part(row / 0x100);
+        let w = part(row);
+        let once = with_byte(image, k, v);
+        let twice = with_byte(once, l, w);
+        let changed = summed(twice);
+        io::write_all(STDOUT_FILENO, b"body");
+        byte(k);
+        byte(v);
+        byte(l);
+        byte(w);
+        try_load(&changed);
+    }
+}
+
+fn try_bodies(image: [u8; 68]) {
+    let mut i = 0;
+    while i < BODIES {
+        try_body(image, i);
+        i += 1;
+    }
+}
+
+// Lock codes of no byte and of sixteen: locked, and a length of seventeen.
+fn try_codes() {
+    let none = image_of(0);
+    io::write_all(STDOUT_FILENO, b"code none");
+    try_load(&none);
+    let locked = summed(with_byte(none, 1, 0x40));
+    io::write_all(STDOUT_FILENO, b"code none locked");
+    try_load(&locked);
+    let most = image_of(16);
+    io::write_all(STDOUT_FILENO, b"code sixteen");
+    try_load(&most);
+    let more = summed(with_byte(most, 10, 17));
+    io::write_all(STDOUT_FILENO, b"code seventeen");
+    try_load(&more);
+}
+
+fn main() {
+    try_saves();
+    let image = image_of(3);
+    let bytes = placed(image);
+    try_places(&bytes);
+    try_trailers(image);
+    try_bodies(image);
+    try_codes();
+}
