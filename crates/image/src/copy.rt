@@ -5,7 +5,7 @@ ghost use lib.ListN.{length};
 ghost use lib.Seq.{paste};
 
 // All of `src` stands in `out` from `at` on; the other bytes of `out` stay.
-pub fn copy_in(out: &mut [u8], at: usize, src: &[u8])
+pub(crate) fn copy_in(out: &mut [u8], at: usize, src: &[u8])
     requires { ⌜ at + length (now src) ≤ length (now out) ⌝ }
     ensures { λ _. ⌜ now (out .exit) ≡ paste (now (out .entry)) at (now (src .entry)) (length (now (src .entry))) ⌝ }
 {

@@ -199,7 +199,7 @@ fn lock_of(b: &[u8]) -> Lock
 }
 
 // The state of a body.
-pub fn state_of(b: &[u8]) -> Controller
+pub(crate) fn state_of(b: &[u8]) -> Controller
     requires { ⌜ length (now b) ≡ bodyLength ⌝ }
     ensures { λ r. ⌜ view r ≡ layout.machineOf (now (b .entry)) ⌝ }
 {

@@ -131,7 +131,7 @@ fn mode_kept(b: &[u8]) -> bool
 }
 
 // Whether a body keeps all the rules.
-pub fn body_kept(b: &[u8]) -> bool
+pub(crate) fn body_kept(b: &[u8]) -> bool
     requires { ⌜ length (now b) ≡ bodyLength ⌝ }
     ensures { λ r. ⌜ r ≡ rules.bodyKept (now (b .entry)) ⌝ }
 {
