@@ -151,14 +151,12 @@ fn keyed(s: Controller, yields: Yield) -> Controller
 fn keyed_byte(s: Controller, x: u8) -> Controller
     ensures { λ r. ⌜ view r ≡ frame.keyedByte x (view s) ⌝ }
 {
-    if inhibited(s) {
+    let swallowed = inhibited(s);
+    let locked = s.lock.locked;
+    if swallowed {
         return s;
     }
-    if s.lock.locked {
-        try_key(s, x)
-    } else {
-        put(s, x)
-    }
+    if locked { try_key(s, x) } else { put(s, x) }
 }
 
 // Translated where the mode byte says so, and always while locked.
