@@ -1,84 +1,40 @@
-// One event: the checks that refuse it, what it does, and its nine answer bytes.
+// One event: the checks that refuse it, what it does, and its nine answer bytes. The kind is looked at once, and each kind makes its own
+// checks.
 use crate::frames::keyboard_frame;
 use crate::frames::mouse_frame;
 use crate::frames::set_pins;
 use crate::frames::taken;
 use crate::frames::timed_out;
-use machine::state::Controller;
-use machine::state::Output;
+use machine::flags::with_output;
+use machine::state::FLAGS;
+use machine::state::OUTPUT;
+use machine::state::SENT;
+use machine::state::SENT_TO;
+use machine::state::State;
+use machine::state::sixty;
+use machine::weights::weight;
 use ports::commands::pulse_of;
 use ports::commands::write_command;
 use ports::data_port::write_data;
 use ports::lines::input_full;
 use ports::lines::keyboard_off;
+use ports::lines::locked;
 use ports::lines::mouse_off;
+use ports::lines::output_full;
 use ports::lines::output_port;
 use ports::lines::status;
 use translation::frames::framed;
 use translation::frames::judge;
 ghost use mathlib.Core.Path.{_≡_};
-ghost use mathlib.Core.List.{_∷_};
-ghost use Rattle.machine.specs.State.{lift};
+ghost use mathlib.Core.List.{_++_};
+ghost use Prim.Native.Nat.{_≤_};
+ghost use lib.ListN.{length, drop};
+ghost use Rattle.machine.specs.State.{Public, lift};
+ghost use Rattle.machine.specs.Lines as lines;
 ghost use Rattle.machine.specs.Events as events;
 ghost use Rattle.machine.specs.Events.{event};
 ghost use Rattle.machine.specs.View.{public, view};
-ghost use Rattle.controller.specs.Done.{Done};
-
-// The state after an event, and the answer: refusal, byte read, old mark, status, output port, pulse mask,
-// destination, frame low and high.
-pub struct Outcome {
-    pub state: Controller,
-    pub answer: [u8; 9],
-}
-
-fn is_write(kind: u8) -> bool
-    ensures { λ r. ⌜ r ≡ events.isWrite kind ⌝ }
-{
-    (kind == 1) | (kind == 3)
-}
-
-fn is_frame(kind: u8) -> bool
-    ensures { λ r. ⌜ r ≡ events.isFrame kind ⌝ }
-{
-    (kind == 4) | (kind == 5)
-}
-
-fn ends_sending(kind: u8) -> bool
-    ensures { λ r. ⌜ r ≡ events.endsSending kind ⌝ }
-{
-    (kind == 6) | (kind == 7)
-}
-
-// The largest value of a kind.
-fn limit(kind: u8) -> u16
-    ensures { λ r. ⌜ r ≡ events.limit kind ⌝ }
-{
-    if is_write(kind) | (kind == 8) {
-        255
-    } else if is_frame(kind) {
-        2047
-    } else {
-        0
-    }
-}
-
-// The device that a frame comes from is off.
-fn device_off(s: Controller, kind: u8) -> bool
-    ensures { λ r. ⌜ r ≡ events.deviceOff (public s) kind ⌝ }
-{
-    if kind == 4 {
-        keyboard_off(s)
-    } else {
-        mouse_off(s)
-    }
-}
-
-// A frame finds no room: its device is off, the output buffer is full, or a byte is being sent.
-fn no_room(s: Controller, kind: u8) -> bool
-    ensures { λ r. ⌜ r ≡ events.noRoom (public s) kind ⌝ }
-{
-    device_off(s, kind) | (s.output.full | input_full(s))
-}
+ghost use Rattle.controller.specs.Done.{told, lined, Acted, Responded, Done};
 
 fn value(low: u8, high: u8) -> u16
     ensures { λ r. ⌜ r ≡ events.valueOf low high ⌝ }
@@ -86,160 +42,243 @@ fn value(low: u8, high: u8) -> u16
     (low as u16) + 256 * (high as u16)
 }
 
-// The number of the first of the checks 3 to 6 that stands.
-fn numbered(busy: bool, locked: bool, early: bool, idle: bool) -> u8
-    ensures { λ r. ⌜ r ≡ events.numbered busy locked early idle ⌝ }
+// The first check that stands, by its number; 0 is none. Reads, kinds 0 and 2.
+fn read_refusal(low: u8, high: u8) -> u8
+    ensures { λ r. ⌜ ((p : Public) → (r ≡ events.refusal p (event 0 low high)) × (r ≡ events.refusal p (event 2 low high))) ⌝ }
 {
-    if busy {
+    if 0 < value(low, high) { 2 } else { 0 }
+}
+
+// Writes, kinds 1 and 3.
+fn write_refusal(s: &State, low: u8, high: u8) -> u8
+    ensures { λ r. ⌜ (r ≡ events.refusal (public (now (s .entry))) (event 1 low high)) × (r ≡ events.refusal (public (now (s .entry))) (event 3 low high)) ⌝ }
+{
+    if 255 < value(low, high) {
+        2
+    } else if input_full(s) {
         3
-    } else if locked {
+    } else if locked(s) {
         4
-    } else if early {
-        5
-    } else if idle {
-        6
     } else {
         0
     }
 }
 
-// The checks that go by the controller's state.
-fn state_refusal(s: Controller, kind: u8) -> u8
-    ensures { λ r. ⌜ r ≡ events.stateRefusal (public s) kind ⌝ }
+// A frame, kind 4 or 5: its device is off, the output buffer is full, or a byte is being sent.
+fn frame_refusal(s: &State, off: bool, low: u8, high: u8) -> u8
+    ensures { λ r. ⌜ (off ≡ lines.keyboardOff (public (now (s .entry))) → r ≡ events.refusal (public (now (s .entry))) (event 4 low high)) × (off ≡ lines.mouseOff (public (now (s .entry))) → r ≡ events.refusal (public (now (s .entry))) (event 5 low high)) ⌝ }
 {
-    let full = input_full(s);
-    let write = is_write(kind);
-    numbered(
-        write & full,
-        write & s.lock.locked,
-        is_frame(kind) & no_room(s, kind),
-        ends_sending(kind) & !full,
-    )
+    if 2047 < value(low, high) {
+        2
+    } else if off | (output_full(s) | input_full(s)) {
+        5
+    } else {
+        0
+    }
 }
 
-// The first check that stands, by its number; 0 is none.
-fn refusal(s: Controller, kind: u8, low: u8, high: u8) -> u8
-    ensures { λ r. ⌜ r ≡ events.refusal (public s) (event kind low high) ⌝ }
+// The end of a byte being sent, kinds 6 and 7.
+fn end_refusal(s: &State, low: u8, high: u8) -> u8
+    ensures { λ r. ⌜ (r ≡ events.refusal (public (now (s .entry))) (event 6 low high)) × (r ≡ events.refusal (public (now (s .entry))) (event 7 low high)) ⌝ }
 {
-    if 8 < kind {
-        return 1;
+    if 0 < value(low, high) {
+        2
+    } else if input_full(s) {
+        0
+    } else {
+        6
     }
-    if limit(kind) < value(low, high) {
-        return 2;
-    }
-    state_refusal(s, kind)
+}
+
+// Pins, kind 8.
+fn pins_refusal(low: u8, high: u8) -> u8
+    ensures { λ r. ⌜ ((p : Public) → r ≡ events.refusal p (event 8 low high)) ⌝ }
+{
+    if 255 < value(low, high) { 2 } else { 0 }
+}
+
+// What an event itself tells: refusal, byte read, old mark, and pulse mask.
+fn tell(answers: &mut [u8], number: u8, read: u8, old: u8, pulsed: u8)
+    requires { ⌜ 9 ≤ length (now answers) ⌝ }
+    ensures { λ _. ⌜ now (answers .exit) ≡ told number read old pulsed (now (answers .entry)) ⌝ }
+{
+    answers[0] = number;
+    answers[1] = read;
+    answers[2] = old;
+    answers[5] = pulsed;
 }
 
 // Port 60h read: the byte stays, and is old from now on.
-fn emptied(mut s: Controller) -> Controller
-    ensures { λ r. ⌜ view r ≡ lift events.emptied (view s) ⌝ }
+fn empty(s: &mut State)
+    ensures { λ _. ⌜ view (now (s .exit)) ≡ lift events.emptied (view (now (s .entry))) ⌝ }
 {
-    let output = Output {
-        byte: s.output.byte,
-        full: false,
-        mouse: false,
-    };
-    s.output = output;
-    s
+    sixty(*s);
+    let flags = s[FLAGS];
+    s[FLAGS] = with_output(flags, false, false);
 }
 
-// What an accepted event does.
-fn accept(s: Controller, kind: u8, low: u8, high: u8) -> Controller
-    requires { ⌜ events.refusal (public s) (event kind low high) ≡ 0 ⌝ }
-    ensures { λ r. ⌜ view r ≡ events.accept (view s) (event kind low high) ⌝ }
+fn read_data(s: &mut State, low: u8, high: u8, answers: &mut [u8])
+    requires { ⌜ 9 ≤ length (now answers) ⌝ }
+    ensures { λ _. ⌜ Acted (now (s .entry)) (event 0 low high) (now (answers .entry)) (now (s .exit)) (now (answers .exit)) ⌝ }
 {
-    match kind {
-        0 => emptied(s),
-        1 => write_data(s, low),
-        2 => s,
-        3 => write_command(s, low),
-        4 => keyboard_frame(s, judge(value(low, high))),
-        5 => mouse_frame(s, judge(value(low, high))),
-        6 => taken(s),
-        7 => timed_out(s),
-        8 => set_pins(s, low),
-        _ => s,
+    let number = read_refusal(low, high);
+    if number != 0 {
+        tell(answers, number, 0, 0, 0);
+        return;
+    }
+    let byte = s[OUTPUT];
+    let old = weight(1, !output_full(s));
+    tell(answers, 0, byte, old, 0);
+    empty(s);
+}
+
+fn data_event(s: &mut State, low: u8, high: u8, answers: &mut [u8])
+    requires { ⌜ 9 ≤ length (now answers) ⌝ }
+    ensures { λ _. ⌜ Acted (now (s .entry)) (event 1 low high) (now (answers .entry)) (now (s .exit)) (now (answers .exit)) ⌝ }
+{
+    let number = write_refusal(s, low, high);
+    tell(answers, number, 0, 0, 0);
+    if number == 0 {
+        write_data(s, low);
     }
 }
 
-fn byte_read(s: Controller, kind: u8) -> u8
-    ensures { λ r. ⌜ r ≡ events.byteRead (public s) kind ⌝ }
+fn read_status(s: &mut State, low: u8, high: u8, answers: &mut [u8])
+    requires { ⌜ 9 ≤ length (now answers) ⌝ }
+    ensures { λ _. ⌜ Acted (now (s .entry)) (event 2 low high) (now (answers .entry)) (now (s .exit)) (now (answers .exit)) ⌝ }
 {
-    match kind {
-        0 => s.output.byte,
-        2 => status(s),
-        _ => 0,
+    let number = read_refusal(low, high);
+    if number != 0 {
+        tell(answers, number, 0, 0, 0);
+        return;
+    }
+    let byte = status(s);
+    tell(answers, 0, byte, 0, 0);
+}
+
+fn command_event(s: &mut State, low: u8, high: u8, answers: &mut [u8])
+    requires { ⌜ 9 ≤ length (now answers) ⌝ }
+    ensures { λ _. ⌜ Acted (now (s .entry)) (event 3 low high) (now (answers .entry)) (now (s .exit)) (now (answers .exit)) ⌝ }
+{
+    let number = write_refusal(s, low, high);
+    if number != 0 {
+        tell(answers, number, 0, 0, 0);
+        return;
+    }
+    tell(answers, 0, 0, 0, pulse_of(value(low, high)));
+    write_command(s, low);
+}
+
+fn keyboard_event(s: &mut State, low: u8, high: u8, answers: &mut [u8])
+    requires { ⌜ 9 ≤ length (now answers) ⌝ }
+    ensures { λ _. ⌜ Acted (now (s .entry)) (event 4 low high) (now (answers .entry)) (now (s .exit)) (now (answers .exit)) ⌝ }
+{
+    let number = frame_refusal(s, keyboard_off(s), low, high);
+    tell(answers, number, 0, 0, 0);
+    if number == 0 {
+        keyboard_frame(s, judge(value(low, high)));
     }
 }
 
-fn old_mark(s: Controller, kind: u8) -> u8
-    ensures { λ r. ⌜ r ≡ events.oldMark (public s) kind ⌝ }
+fn mouse_event(s: &mut State, low: u8, high: u8, answers: &mut [u8])
+    requires { ⌜ 9 ≤ length (now answers) ⌝ }
+    ensures { λ _. ⌜ Acted (now (s .entry)) (event 5 low high) (now (answers .entry)) (now (s .exit)) (now (answers .exit)) ⌝ }
 {
-    if (kind == 0) & !s.output.full { 1 } else { 0 }
+    let number = frame_refusal(s, mouse_off(s), low, high);
+    tell(answers, number, 0, 0, 0);
+    if number == 0 {
+        mouse_frame(s, judge(value(low, high)));
+    }
 }
 
-// The lines that a command pulses.
-fn pulse(kind: u8, low: u8, high: u8) -> u8
-    ensures { λ r. ⌜ r ≡ events.pulse (event kind low high) ⌝ }
+fn taken_event(s: &mut State, low: u8, high: u8, answers: &mut [u8])
+    requires { ⌜ 9 ≤ length (now answers) ⌝ }
+    ensures { λ _. ⌜ Acted (now (s .entry)) (event 6 low high) (now (answers .entry)) (now (s .exit)) (now (answers .exit)) ⌝ }
 {
-    if kind == 3 {
-        pulse_of(value(low, high))
-    } else {
-        0
+    let number = end_refusal(s, low, high);
+    tell(answers, number, 0, 0, 0);
+    if number == 0 {
+        taken(s);
+    }
+}
+
+fn timeout_event(s: &mut State, low: u8, high: u8, answers: &mut [u8])
+    requires { ⌜ 9 ≤ length (now answers) ⌝ }
+    ensures { λ _. ⌜ Acted (now (s .entry)) (event 7 low high) (now (answers .entry)) (now (s .exit)) (now (answers .exit)) ⌝ }
+{
+    let number = end_refusal(s, low, high);
+    tell(answers, number, 0, 0, 0);
+    if number == 0 {
+        timed_out(s);
+    }
+}
+
+fn pins_event(s: &mut State, low: u8, high: u8, answers: &mut [u8])
+    requires { ⌜ 9 ≤ length (now answers) ⌝ }
+    ensures { λ _. ⌜ Acted (now (s .entry)) (event 8 low high) (now (answers .entry)) (now (s .exit)) (now (answers .exit)) ⌝ }
+{
+    let number = pins_refusal(low, high);
+    tell(answers, number, 0, 0, 0);
+    if number == 0 {
+        set_pins(s, low);
+    }
+}
+
+// The event, and what it itself tells.
+fn act(s: &mut State, kind: u8, low: u8, high: u8, answers: &mut [u8])
+    requires { ⌜ 9 ≤ length (now answers) ⌝ }
+    ensures { λ _. ⌜ Acted (now (s .entry)) (event kind low high) (now (answers .entry)) (now (s .exit)) (now (answers .exit)) ⌝ }
+{
+    match kind {
+        0 => read_data(s, low, high, answers),
+        1 => data_event(s, low, high, answers),
+        2 => read_status(s, low, high, answers),
+        3 => command_event(s, low, high, answers),
+        4 => keyboard_event(s, low, high, answers),
+        5 => mouse_event(s, low, high, answers),
+        6 => taken_event(s, low, high, answers),
+        7 => timeout_event(s, low, high, answers),
+        8 => pins_event(s, low, high, answers),
+        _ => tell(answers, 1, 0, 0, 0),
     }
 }
 
 // The frame being sent, 0 with nobody.
-fn sent_frame(s: Controller) -> u16
-    ensures { λ r. ⌜ r ≡ events.sentFrame (public s) ⌝ }
+fn sent_frame(s: &State) -> u16
+    ensures { λ r. ⌜ r ≡ events.sentFrame (public (now (s .entry))) ⌝ }
 {
-    if input_full(s) {
-        framed(s.sending.byte)
-    } else {
-        0
-    }
+    if input_full(s) { framed(s[SENT]) } else { 0 }
 }
 
-fn answer_bytes(s: Controller, refusal: u8, read: u8, old: u8, pulsed: u8) -> [u8; 9]
-    ensures { λ r. ⌜ r ≡ refusal ∷ read ∷ old ∷ events.lines (public s) pulsed ⌝ }
+// What the lines show: status, output port, destination, and the frame low byte first.
+fn show_lines(s: &State, answers: &mut [u8])
+    requires { ⌜ 9 ≤ length (now answers) ⌝ }
+    ensures { λ _. ⌜ now (answers .exit) ≡ lined (public (now (s .entry))) (now (answers .entry)) ⌝ }
 {
     let frame = sent_frame(s);
-    [
-        refusal,
-        read,
-        old,
-        status(s),
-        output_port(s),
-        pulsed,
-        s.sending.to,
-        (frame % 256) as u8,
-        (frame / 256) as u8,
-    ]
+    let shown = status(s);
+    let port = output_port(s);
+    answers[3] = shown;
+    answers[4] = port;
+    answers[6] = s[SENT_TO];
+    answers[7] = (frame % 256) as u8;
+    answers[8] = (frame / 256) as u8;
 }
 
-// An event that a check refuses: nothing changes.
-fn refused(s: Controller, number: u8) -> Outcome
-    ensures { λ r. ⌜ (r .state ≡ s) × (r .answer ≡ events.refusedReply (public s) number) ⌝ }
+// One event from any state, and its answer at the front of the buffer.
+pub(crate) fn respond(s: &mut State, kind: u8, low: u8, high: u8, answers: &mut [u8])
+    requires { ⌜ 9 ≤ length (now answers) ⌝ }
+    ensures { λ _. ⌜ Responded (now (s .entry)) (event kind low high) (now (answers .entry)) (now (s .exit)) (now (answers .exit)) ⌝ }
 {
-    Outcome {
-        state: s,
-        answer: answer_bytes(s, number, 0, 0, 0),
-    }
+    act(s, kind, low, high, answers);
+    show_lines(s, answers);
 }
 
-// One event, from any state.
-pub fn event(s: Controller, kind: u8, low: u8, high: u8) -> Outcome
-    ensures { λ r. ⌜ Done s (event kind low high) r ⌝ }
+// One event, from any state: its nine answer bytes.
+pub fn event(s: &mut State, kind: u8, low: u8, high: u8) -> [u8; 9]
+    ensures { λ r. ⌜ Done (now (s .entry)) (event kind low high) (now (s .exit)) r ⌝ }
 {
-    let number = refusal(s, kind, low, high);
-    if number != 0 {
-        return refused(s, number);
-    }
-    let read = byte_read(s, kind);
-    let old = old_mark(s, kind);
-    let next = accept(s, kind, low, high);
-    Outcome {
-        state: next,
-        answer: answer_bytes(next, 0, read, old, pulse(kind, low, high)),
-    }
+    let mut answer = [0u8; 9];
+    respond(s, kind, low, high, &mut answer);
+    answer
 }

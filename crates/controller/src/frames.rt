@@ -1,10 +1,19 @@
 // What arrives from the keyboard and the mouse, and keys typed at the lock.
-use machine::state::Controller;
-use machine::state::Errors;
-use machine::state::Ports;
+use machine::flags::with_breaks;
+use machine::flags::with_errors;
+use machine::flags::with_locked;
+use machine::state::CODE;
+use machine::state::FLAGS;
+use machine::state::LENGTH;
+use machine::state::PINS;
+use machine::state::POSITION;
+use machine::state::SENT_TO;
+use machine::state::State;
+use machine::state::sixty;
 use ports::data_port::send;
 use ports::lines::cell;
 use ports::lines::inhibited;
+use ports::lines::locked;
 use ports::lines::put;
 use ports::lines::put_cell;
 use ports::lines::put_mouse;
@@ -15,9 +24,9 @@ use translation::scan_codes::Yield;
 use translation::scan_codes::raw;
 use translation::scan_codes::translate;
 ghost use mathlib.Core.Path.{_≡_};
-ghost use mathlib.Core.Bool.{true};
+ghost use mathlib.Core.Bool.{true, false};
 ghost use Prim.Native.Nat.{_≤_, _<_};
-ghost use lib.ListN.{length};
+ghost use lib.ListN.{length, getD};
 ghost use Rattle.translation.specs.Frames.{verdict};
 ghost use Rattle.translation.specs.ScanCodes.{translation, yielded};
 ghost use Rattle.machine.specs.State.{lift};
@@ -27,160 +36,181 @@ ghost use Rattle.machine.specs.View.{public, view};
 // What a device's frame that is no good stands for.
 const ERROR: u8 = 0xFF;
 
-fn judged(mut s: Controller, timeout: bool, parity: bool) -> Controller
-    ensures { λ r. ⌜ view r ≡ lift (frame.judged timeout parity) (view s) ⌝ }
+fn set_errors(s: &mut State, timeout: bool, parity: bool)
+    ensures { λ _. ⌜ view (now (s .exit)) ≡ lift (frame.judged timeout parity) (view (now (s .entry))) ⌝ }
 {
-    let errors = Errors { timeout, parity };
-    s.errors = errors;
-    s
+    sixty(*s);
+    let flags = s[FLAGS];
+    s[FLAGS] = with_errors(flags, timeout, parity);
 }
 
-fn breaking(mut s: Controller, breaks: bool) -> Controller
-    ensures { λ r. ⌜ view r ≡ lift (frame.breaking breaks) (view s) ⌝ }
+fn set_breaks(s: &mut State, breaks: bool)
+    ensures { λ _. ⌜ view (now (s .exit)) ≡ lift (frame.breaking breaks) (view (now (s .entry))) ⌝ }
 {
-    s.breaks = breaks;
-    s
+    sixty(*s);
+    let flags = s[FLAGS];
+    s[FLAGS] = with_breaks(flags, breaks);
 }
 
-fn positioned(mut s: Controller, k: u8) -> Controller
-    ensures { λ r. ⌜ view r ≡ frame.positioned k (view s) ⌝ }
+fn set_position(s: &mut State, k: u8)
+    ensures { λ _. ⌜ view (now (s .exit)) ≡ frame.positioned k (view (now (s .entry))) ⌝ }
 {
-    s.lock.position = k;
-    s
+    sixty(*s);
+    s[POSITION] = k;
 }
 
 // A damaged keyboard frame shows, unless locked or inhibited.
-fn key_error(s: Controller) -> Controller
-    ensures { λ r. ⌜ view r ≡ lift frame.keyError (view s) ⌝ }
+fn key_error(s: &mut State)
+    ensures { λ _. ⌜ view (now (s .exit)) ≡ lift frame.keyError (view (now (s .entry))) ⌝ }
 {
-    if s.lock.locked | inhibited(s) {
-        s
-    } else {
-        put(s, ERROR)
+    if locked(s) | inhibited(s) {
+        return;
     }
+    put(s, ERROR);
 }
 
-fn damaged_key(s: Controller, timeout: bool, parity: bool) -> Controller
-    ensures { λ r. ⌜ view r ≡ frame.damagedKey timeout parity (view s) ⌝ }
+fn damaged_key(s: &mut State, timeout: bool, parity: bool)
+    ensures { λ _. ⌜ view (now (s .exit)) ≡ frame.damagedKey timeout parity (view (now (s .entry))) ⌝ }
 {
-    positioned(key_error(breaking(judged(s, timeout, parity), false)), 0)
+    set_errors(s, timeout, parity);
+    set_breaks(s, false);
+    key_error(s);
+    set_position(s, 0);
 }
 
 // A byte that is no key of a code.
-fn ignored(s: Controller, x: u8) -> bool
-    ensures { λ r. ⌜ r ≡ frame.ignored x (public s) ⌝ }
+fn ignored(s: &State, x: u8) -> bool
+    ensures { λ r. ⌜ r ≡ frame.ignored x (public (now (s .entry))) ⌝ }
 {
     (x / 128 % 2 == 1) | ((x == cell(s, 0x16)) | (x == cell(s, 0x17)))
 }
 
 // How long the lock code is.
-fn code_length(s: Controller) -> u8
-    ensures { λ r. ⌜ (r ≡ length (view s .secret .code)) × (r ≤ 16) ⌝ }
+fn code_length(s: &State) -> u8
+    ensures { λ r. ⌜ (r ≡ length (view (now (s .entry)) .secret .code)) × (r ≤ 16) ⌝ }
 {
-    let n = s.lock.length;
+    sixty(*s);
+    let n = s[LENGTH];
     if 16 < n { 16 } else { n }
 }
 
 // The byte is the one of the code at the position.
-fn matches(s: Controller, x: u8) -> bool
-    ensures { λ r. ⌜ (r ≡ frame.matches x (view s)) × (r ≡ true → s .lock .position < 16) ⌝ }
+fn matches(s: &State, x: u8) -> bool
+    ensures { λ r. ⌜ (r ≡ frame.matches x (view (now (s .entry)))) × (r ≡ true → getD (now (s .entry)) 11 0 < 16) ⌝ }
 {
+    sixty(*s);
     let n = code_length(s);
-    let k = s.lock.position;
+    let k = s[POSITION];
     if k < n {
-        let at = k as usize;
-        let lock = s.lock;
-        x == lock.code[at]
+        let at = CODE + (k as usize);
+        x == s[at]
     } else {
         false
     }
 }
 
 // The position is that of the code's last byte.
-fn completes(s: Controller) -> bool
-    requires { ⌜ s .lock .position < 16 ⌝ }
-    ensures { λ r. ⌜ r ≡ frame.completes (view s) ⌝ }
+fn completes(s: &State) -> bool
+    requires { ⌜ getD (now s) 11 0 < 16 ⌝ }
+    ensures { λ r. ⌜ r ≡ frame.completes (view (now (s .entry))) ⌝ }
 {
-    s.lock.position + 1 == code_length(s)
+    let k = s[POSITION];
+    k + 1 == code_length(s)
 }
 
-fn open_lock(mut s: Controller) -> Controller
-    ensures { λ r. ⌜ view r ≡ frame.opened (view s) ⌝ }
+fn open_lock(s: &mut State)
+    ensures { λ _. ⌜ view (now (s .exit)) ≡ frame.opened (view (now (s .entry))) ⌝ }
 {
-    s.lock.locked = false;
-    s.lock.position = 0;
-    s
+    sixty(*s);
+    let flags = s[FLAGS];
+    s[FLAGS] = with_locked(flags, false);
+    s[POSITION] = 0;
 }
 
 // One key further: the lock opens at the code's end.
-fn advance(s: Controller) -> Controller
-    requires { ⌜ s .lock .position < 16 ⌝ }
-    ensures { λ r. ⌜ view r ≡ frame.advanced (view s) ⌝ }
+fn advance(s: &mut State)
+    requires { ⌜ getD (now s) 11 0 < 16 ⌝ }
+    ensures { λ _. ⌜ view (now (s .exit)) ≡ frame.advanced (view (now (s .entry))) ⌝ }
 {
     if completes(s) {
-        put_cell(open_lock(s), 0x14)
+        open_lock(s);
+        put_cell(s, 0x14);
     } else {
-        positioned(s, s.lock.position + 1)
+        let k = s[POSITION];
+        set_position(s, k + 1);
     }
 }
 
 // A key while locked.
-fn try_key(s: Controller, x: u8) -> Controller
-    ensures { λ r. ⌜ view r ≡ frame.try x (view s) ⌝ }
+fn try_key(s: &mut State, x: u8)
+    ensures { λ _. ⌜ view (now (s .exit)) ≡ frame.try x (view (now (s .entry))) ⌝ }
 {
     if ignored(s, x) {
-        return s;
+        return;
     }
     if matches(s, x) {
-        advance(s)
+        advance(s);
     } else {
-        positioned(s, 0)
+        set_position(s, 0);
+    }
+}
+
+fn keyed_byte(s: &mut State, x: u8)
+    ensures { λ _. ⌜ view (now (s .exit)) ≡ frame.keyedByte x (view (now (s .entry))) ⌝ }
+{
+    let swallowed = inhibited(s);
+    let tried = locked(s);
+    if swallowed {
+        return;
+    }
+    if tried {
+        try_key(s, x);
+    } else {
+        put(s, x);
     }
 }
 
 // A code that the translation yielded.
-fn keyed(s: Controller, yields: Yield) -> Controller
-    ensures { λ r. ⌜ view r ≡ frame.keyed (yielded yields) (view s) ⌝ }
+fn keyed(s: &mut State, yields: Yield)
+    ensures { λ _. ⌜ view (now (s .exit)) ≡ frame.keyed (yielded yields) (view (now (s .entry))) ⌝ }
 {
     match yields {
-        Yield::Nothing => s,
+        Yield::Nothing => {}
         Yield::Byte(x) => keyed_byte(s, x),
     }
 }
 
-fn keyed_byte(s: Controller, x: u8) -> Controller
-    ensures { λ r. ⌜ view r ≡ frame.keyedByte x (view s) ⌝ }
+// The break flag, which the prefix sets for the code after it.
+fn breaks(s: &State) -> bool
+    ensures { λ r. ⌜ r ≡ public (now (s .entry)) .breaks ⌝ }
 {
-    let swallowed = inhibited(s);
-    let locked = s.lock.locked;
-    if swallowed {
-        return s;
-    }
-    if locked { try_key(s, x) } else { put(s, x) }
+    s[FLAGS] / 4 % 2 == 1
 }
 
 // Translated where the mode byte says so, and always while locked.
-fn translated(s: Controller, byte: u8) -> Translated
-    ensures { λ r. ⌜ translation r ≡ frame.translated byte (public s) ⌝ }
+fn translated(s: &State, byte: u8) -> Translated
+    ensures { λ r. ⌜ translation r ≡ frame.translated byte (public (now (s .entry))) ⌝ }
 {
-    if translates(s) | s.lock.locked {
-        translate(byte, s.breaks)
+    if translates(s) | locked(s) {
+        translate(byte, breaks(s))
     } else {
         raw(byte)
     }
 }
 
-fn sound_key(s: Controller, byte: u8) -> Controller
-    ensures { λ r. ⌜ view r ≡ frame.soundKey byte (view s) ⌝ }
+fn sound_key(s: &mut State, byte: u8)
+    ensures { λ _. ⌜ view (now (s .exit)) ≡ frame.soundKey byte (view (now (s .entry))) ⌝ }
 {
     let t = translated(s, byte);
     let yields = t.yields;
-    keyed(breaking(judged(s, false, false), t.breaks), yields)
+    set_errors(s, false, false);
+    set_breaks(s, t.breaks);
+    keyed(s, yields);
 }
 
 // A keyboard frame that is accepted.
-pub fn keyboard_frame(s: Controller, v: Verdict) -> Controller
-    ensures { λ r. ⌜ view r ≡ frame.keyboardFrame (verdict v) (view s) ⌝ }
+pub fn keyboard_frame(s: &mut State, v: Verdict)
+    ensures { λ _. ⌜ view (now (s .exit)) ≡ frame.keyboardFrame (verdict v) (view (now (s .entry))) ⌝ }
 {
     match v {
         Verdict::Sound(byte) => sound_key(s, byte),
@@ -189,46 +219,65 @@ pub fn keyboard_frame(s: Controller, v: Verdict) -> Controller
     }
 }
 
-fn put_from_mouse(s: Controller, byte: u8) -> Controller
-    ensures { λ r. ⌜ view r ≡ lift (frame.mousePut byte) (view s) ⌝ }
+fn put_from_mouse(s: &mut State, byte: u8)
+    ensures { λ _. ⌜ view (now (s .exit)) ≡ lift (frame.mousePut byte) (view (now (s .entry))) ⌝ }
 {
-    if s.lock.locked { s } else { put_mouse(s, byte) }
+    if locked(s) {
+        return;
+    }
+    put_mouse(s, byte);
+}
+
+fn damaged_mouse(s: &mut State, timeout: bool, parity: bool)
+    ensures { λ _. ⌜ view (now (s .exit)) ≡ lift (λ p. frame.mousePut 0xFF (frame.judged timeout parity p)) (view (now (s .entry))) ⌝ }
+{
+    set_errors(s, timeout, parity);
+    put_from_mouse(s, ERROR);
+}
+
+fn sound_mouse(s: &mut State, byte: u8)
+    ensures { λ _. ⌜ view (now (s .exit)) ≡ lift (λ p. frame.mousePut byte (frame.judged false false p)) (view (now (s .entry))) ⌝ }
+{
+    set_errors(s, false, false);
+    put_from_mouse(s, byte);
 }
 
 // A mouse frame that is accepted.
-pub fn mouse_frame(s: Controller, v: Verdict) -> Controller
-    ensures { λ r. ⌜ view r ≡ lift (frame.mouseFrame (verdict v)) (view s) ⌝ }
+pub fn mouse_frame(s: &mut State, v: Verdict)
+    ensures { λ _. ⌜ view (now (s .exit)) ≡ lift (frame.mouseFrame (verdict v)) (view (now (s .entry))) ⌝ }
 {
     match v {
-        Verdict::Sound(byte) => put_from_mouse(judged(s, false, false), byte),
-        Verdict::Parity => put_from_mouse(judged(s, false, true), ERROR),
-        Verdict::Broken => put_from_mouse(judged(s, true, false), ERROR),
+        Verdict::Sound(byte) => sound_mouse(s, byte),
+        Verdict::Parity => damaged_mouse(s, false, true),
+        Verdict::Broken => damaged_mouse(s, true, false),
     }
 }
 
 // The device took the byte.
-pub fn taken(s: Controller) -> Controller
-    ensures { λ r. ⌜ view r ≡ lift frame.taken (view s) ⌝ }
+pub fn taken(s: &mut State)
+    ensures { λ _. ⌜ view (now (s .exit)) ≡ lift frame.taken (view (now (s .entry))) ⌝ }
 {
-    judged(send(s, 0, 0), false, false)
+    send(s, 0, 0);
+    set_errors(s, false, false);
 }
 
 // The device did not take the byte in time.
-pub fn timed_out(s: Controller) -> Controller
-    ensures { λ r. ⌜ view r ≡ lift frame.timedOut (view s) ⌝ }
+pub fn timed_out(s: &mut State)
+    ensures { λ _. ⌜ view (now (s .exit)) ≡ lift frame.timedOut (view (now (s .entry))) ⌝ }
 {
-    let to = s.sending.to;
-    let idle = judged(send(s, 0, 0), true, false);
+    let to = s[SENT_TO];
+    send(s, 0, 0);
+    set_errors(s, true, false);
     if to == 2 {
-        put_mouse(idle, 0xFE)
+        put_mouse(s, 0xFE);
     } else {
-        put(idle, 0xFE)
+        put(s, 0xFE);
     }
 }
 
-pub fn set_pins(mut s: Controller, pins: u8) -> Controller
-    ensures { λ r. ⌜ view r ≡ lift (frame.pinned pins) (view s) ⌝ }
+pub fn set_pins(s: &mut State, pins: u8)
+    ensures { λ _. ⌜ view (now (s .exit)) ≡ lift (frame.pinned pins) (view (now (s .entry))) ⌝ }
 {
-    s.ports.pins = pins;
-    s
+    sixty(*s);
+    s[PINS] = pins;
 }

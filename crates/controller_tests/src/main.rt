@@ -1,9 +1,8 @@
 // Runs lists of events at the limits of a call, and short lists for single rules, and prints what comes back.
 mod cases;
 
-use controller::run::run;
+use controller::run::run_fresh;
 use libc::STDOUT_FILENO;
-use machine::state::start;
 ghost use Prim.Native.Nat.{_*_, _≤_, _<_};
 ghost use lib.ListN.{length};
 
@@ -166,7 +165,7 @@ fn run_part(list: &[u8], bytes: usize, answers: &mut [u8], space: usize) -> u8 {
     if answers.len() < space {
         return 0xFF;
     }
-    run(start(), &list[..bytes], &mut answers[..space]).refusal
+    run_fresh(&list[..bytes], &mut answers[..space])
 }
 
 // A list of some events over and over: that many bytes of it are run, with that much space for the answers.
@@ -185,7 +184,7 @@ pub fn case(name: &[u8], events: &[u8]) {
     let mut list = [0u8; 96];
     let n = parse(events, &mut list);
     let mut answers = [MARK; 288];
-    run(start(), &list[..n], &mut answers);
+    run_fresh(&list[..n], &mut answers);
     put(name);
     put(b"\n");
     put_answers(&answers[..n / 3 * 9]);

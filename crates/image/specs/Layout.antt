@@ -1,10 +1,12 @@
 -- "Saved image", the byte table: the body and the trailer that a machine is saved as, and the machine of a body.
-use Prim.Native.Nat.{ℕ, _+_, _-_, _*_, _/_, _%_, _^_}
-use mathlib.Core.Bool.{Bool, false}
+use Prim.Native.Nat.{ℕ, _+_, _-_, _*_}
+use mathlib.Core.Bool.{false}
 use mathlib.Core.List.{List, [], _∷_, _++_}
 use lib.ListN.{length, getD, take, drop, replicate}
 use lib.Dec.{eqb}
+use Rattle.translation.specs.Bits.{has}
 use Rattle.machine.specs.State.{Machine, Public}
+use Rattle.machine.specs.Flags.{Flags}
 use Rattle.machine.specs.Lines.{nibble}
 use Rattle.image.specs.Sum.{lowByte, highByte, sum}
 
@@ -62,12 +64,14 @@ trailer edition b =
 unfoldable pub image : Machine → List ℕ
 image m = body m ++ trailer 1 (body m)
 
--- byte k of a body, and whether bit k of a byte is 1
+-- byte k of a body
 abbrev pub at : List ℕ → ℕ → ℕ
 at b k = getD b k 0
 
-abbrev pub has : ℕ → ℕ → Bool
-has byte k = eqb (byte / 2 ^ k % 2) 1
+-- the flags of byte 1
+abbrev pub flagsIn : ℕ → Flags
+flagsIn byte =
+    record { full = has byte 0; mouse = has byte 1; command = has byte 2; timeout = has byte 3; parity = has byte 4; breaks = has byte 5; locked = has byte 6 }
 
 -- The machine of a body: the table read the other way.
 unfoldable pub machineOf : List ℕ → Machine

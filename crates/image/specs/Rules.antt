@@ -4,7 +4,8 @@ use mathlib.Core.Bool.{Bool, true, cond, not, _&&_}
 use mathlib.Core.List.{List, [], _∷_}
 use lib.ListN.{take, drop}
 use lib.Dec.{eqb, leb, ltb}
-use Rattle.image.specs.Layout.{at, has}
+use Rattle.translation.specs.Bits.{has}
+use Rattle.image.specs.Layout.{at}
 
 -- Flags: bit 7 is unused; mouse source needs OBF.
 unfoldable pub flagsKept : List ℕ → Bool

@@ -1,6 +1,6 @@
 // The body rules, over the bytes of a body.
 ghost use mathlib.Core.Path.{_≡_};
-ghost use lib.ListN.{length, take, drop};
+ghost use lib.ListN.{length};
 ghost use Rattle.image.specs.Layout.{bodyLength};
 ghost use Rattle.image.specs.Rules as rules;
 

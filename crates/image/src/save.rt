@@ -6,7 +6,8 @@ use crate::layout::IMAGE;
 use crate::layout::head;
 use crate::layout::padded_code;
 use crate::layout::trailer;
-use machine::state::Controller;
+use machine::state::RAM;
+use machine::state::State;
 ghost use mathlib.Core.Path.{_≡_};
 ghost use mathlib.Core.List.{_++_};
 ghost use Prim.Native.Nat.{_≤_};
@@ -19,22 +20,22 @@ ghost use Rattle.image.specs.Save.{saveRefusal, saved};
 const NO_ROOM: u8 = 9;
 
 // The body of `s` stands at the front of `out`.
-fn write_body(s: Controller, out: &mut [u8])
+fn write_body(s: &State, out: &mut [u8])
     requires { ⌜ bodyLength ≤ length (now out) ⌝ }
-    ensures { λ _. ⌜ (now (out .exit) ≡ body (view s) ++ drop bodyLength (now (out .entry))) × (length (body (view s)) ≡ bodyLength) ⌝ }
+    ensures { λ _. ⌜ (now (out .exit) ≡ body (view (now (s .entry))) ++ drop bodyLength (now (out .entry))) × (length (body (view (now (s .entry)))) ≡ bodyLength) ⌝ }
 {
     let first = head(s);
     copy_in(out, 0, &first);
     let code = padded_code(s);
     copy_in(out, 12, &code);
-    let ram = s.ram;
-    copy_in(out, 28, &ram);
+    let all = &s[..];
+    copy_in(out, 28, &all[RAM..BODY]);
 }
 
 // The image of `s` stands at the front of `out`, and 0 comes back; or the refusal, and `out` is as it was.
-pub fn save(s: Controller, out: &mut [u8]) -> u8
+pub fn save(s: &State, out: &mut [u8]) -> u8
     ensures { λ r. ⌜ r ≡ saveRefusal (now (out .entry)) ⌝ }
-    ensures { λ _. ⌜ now (out .exit) ≡ saved (view s) (now (out .entry)) ⌝ }
+    ensures { λ _. ⌜ now (out .exit) ≡ saved (view (now (s .entry))) (now (out .entry)) ⌝ }
 {
     if out.len() < IMAGE {
         return NO_ROOM;

@@ -4,13 +4,18 @@ use image::find::find;
 use image::load::load;
 use image::save::save;
 use libc::STDOUT_FILENO;
-use machine::state::Controller;
-use machine::state::Errors;
-use machine::state::Host;
-use machine::state::Lock;
-use machine::state::Output;
-use machine::state::Ports;
-use machine::state::Sending;
+use machine::flags::with_breaks;
+use machine::flags::with_command;
+use machine::flags::with_errors;
+use machine::flags::with_output;
+use machine::state::CODE;
+use machine::state::FLAGS;
+use machine::state::LATCHES;
+use machine::state::LENGTH;
+use machine::state::OUTPUT;
+use machine::state::PINS;
+use machine::state::RAM;
+use machine::state::State;
 use machine::state::start;
 use std::num::wrapping_add_u16;
 
@@ -67,65 +72,45 @@ const TRIED: [u32; 43] = [
     0x3B_FF_3B_FF, // the last cell
 ];
 
-// A lock code of sixteen bytes, of three, or of none.
-fn code(n: u8) -> [u8; 16] {
-    if n == 16 {
-        return [0x1E; 16];
+// OBF, PERR, C and the break flag.
+fn flags() -> u8 {
+    let breaks = with_breaks(0, true);
+    let command = with_command(breaks, true);
+    let errors = with_errors(command, false, true);
+    with_output(errors, true, false)
+}
+
+// A lock code of n bytes, sixteen at most.
+fn put_code(s: &mut State, n: u8) {
+    s[LENGTH] = n;
+    let mut i = 0;
+    while i < 16 {
+        if i < n as usize {
+            s[CODE + i] = 0x1E;
+        }
+        i += 1;
     }
-    let mut code = [0u8; 16];
-    if n == 3 {
-        code[0] = 0x1E;
-        code[1] = 0x1E;
-        code[2] = 0x1E;
-    }
-    code
 }
 
 // A state with something in each of its parts, and a lock code of n bytes.
-fn sample(n: u8) -> Controller {
-    let code = code(n);
-    let mut ram = [0u8; 32];
-    ram[0] = 0x65;
-    ram[19] = 0x55;
-    ram[31] = 0xFF;
-    Controller {
-        output: Output {
-            byte: 0x41,
-            full: true,
-            mouse: false,
-        },
-        errors: Errors {
-            timeout: false,
-            parity: true,
-        },
-        host: Host {
-            command: true,
-            pending: 0,
-            cell: 0,
-            overlay: false,
-            nibble: 0,
-        },
-        ports: Ports {
-            pins: 0xA5,
-            p20: true,
-            p21: false,
-        },
-        sending: Sending { to: 0, byte: 0 },
-        breaks: true,
-        lock: Lock {
-            locked: false,
-            length: n,
-            position: 0,
-            code,
-        },
-        ram,
-    }
+fn sample(n: u8) -> State {
+    let mut s = [0u8; 60];
+    s[OUTPUT] = 0x41;
+    s[FLAGS] = flags();
+    s[PINS] = 0xA5;
+    s[LATCHES] = 1;
+    put_code(&mut s, n);
+    s[RAM] = 0x65;
+    s[RAM + 19] = 0x55;
+    s[RAM + 31] = 0xFF;
+    s
 }
 
 // Its image.
 fn image_of(n: u8) -> [u8; 68] {
+    let s = sample(n);
     let mut image = [0u8; 68];
-    save(sample(n), &mut image);
+    save(&s, &mut image);
     image
 }
 
@@ -162,16 +147,17 @@ fn line(refusal: u8, bytes: &[u8]) {
 fn try_save(out: &mut [u8]) {
     io::write_all(STDOUT_FILENO, b"save");
     number(out.len() as u64);
-    let refusal = save(sample(3), out);
+    let s = sample(3);
+    let refusal = save(&s, out);
     line(refusal, out);
 }
 
 fn try_load(bytes: &[u8]) {
-    let loaded = load(start(), bytes);
-    let state = loaded.state;
+    let mut s = start();
+    let refusal = load(&mut s, bytes);
     let mut out = [0u8; 68];
-    save(state, &mut out);
-    line(loaded.refusal, &out);
+    save(&s, &mut out);
+    line(refusal, &out);
 }
 
 // An image with the sum of its body put right.

@@ -3,7 +3,6 @@ pub mod Cond
 pub mod State
 pub mod Lines
 pub mod Bounds
-pub mod DataPort
 pub mod Commands
 pub mod Events
 pub mod KeptParts
@@ -12,5 +11,6 @@ pub mod KeptDataPort
 pub mod KeptCommands
 pub mod KeptFrames
 pub mod Kept
+pub mod Flags
 pub mod View
 pub mod Worked

@@ -6,5 +6,6 @@ pub mod Frames
 pub mod Events
 pub mod Run
 pub mod Kept
+pub mod Flags
 pub mod View
 pub mod Worked

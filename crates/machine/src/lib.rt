@@ -1,2 +1,4 @@
 // The 8042 keyboard controller in PS/2 mode: the definitions of the machine, and the state that stands for it.
+pub mod flags;
 pub mod state;
+pub mod weights;

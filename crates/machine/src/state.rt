@@ -1,98 +1,60 @@
-// The controller's state, by value, in parts that change together.
+// The controller's state: sixty bytes, which a run changes in place. They stand in the order of a saved image's body.
 ghost use mathlib.Core.Path.{_≡_};
+ghost use lib.ListN.{length};
 ghost use Rattle.machine.specs.State.{fresh};
 ghost use Rattle.machine.specs.View.{view};
 
-// The output buffer, which the host reads at port 60h.
-pub struct Output {
-    pub byte: u8,
-    pub full: bool,
-    pub mouse: bool,
-}
+pub type State = [u8; 60];
 
-// The status register's error bits.
-pub struct Errors {
-    pub timeout: bool,
-    pub parity: bool,
-}
+// The output byte, which the host reads at port 60h.
+pub const OUTPUT: usize = 0;
 
-// What the host's writes leave: the command flag, the pending code with its cell, the status overlay.
-pub struct Host {
-    pub command: bool,
-    pub pending: u8,
-    pub cell: u8,
-    pub overlay: bool,
-    pub nibble: u8,
-}
+// Seven flags, a bit each.
+pub const FLAGS: usize = 1;
 
-// Input port pins and the latches of the output port.
-pub struct Ports {
-    pub pins: u8,
-    pub p20: bool,
-    pub p21: bool,
-}
+// Input port pins, and the latches of the output port in bits 0 and 1.
+pub const PINS: usize = 2;
 
-// The byte being sent to a device: to nobody (0), the keyboard (1) or the mouse (2).
-pub struct Sending {
-    pub to: u8,
-    pub byte: u8,
-}
+pub const LATCHES: usize = 3;
 
-// The lock code, how much of it is there, and how much of it has been typed.
-pub struct Lock {
-    pub locked: bool,
-    pub length: u8,
-    pub position: u8,
-    pub code: [u8; 16],
-}
+// The pending code, the cell of code 2, and the status overlay with its nibble.
+pub const PENDING: usize = 4;
 
-pub struct Controller {
-    pub output: Output,
-    pub errors: Errors,
-    pub host: Host,
-    pub ports: Ports,
-    pub sending: Sending,
-    pub breaks: bool,
-    pub lock: Lock,
-    pub ram: [u8; 32],
-}
+pub const CELL: usize = 5;
+
+pub const OVERLAY: usize = 6;
+
+pub const NIBBLE: usize = 7;
+
+// The byte being sent: to nobody (0), the keyboard (1) or the mouse (2).
+pub const SENT_TO: usize = 8;
+
+pub const SENT: usize = 9;
+
+// How long the lock code is, how much of it has been typed, and its bytes.
+pub const LENGTH: usize = 10;
+
+pub const POSITION: usize = 11;
+
+pub const CODE: usize = 12;
+
+// The RAM; its cell 0 is the mode byte.
+pub const RAM: usize = 28;
+
+pub const MODE: usize = 28;
+
+// The length that the type has, told to the proofs: they do not learn it of an array behind a reference. It compiles to nothing.
+pub fn sixty(s: State)
+    ensures { λ _. ⌜ length s ≡ 60 ⌝ }
+{}
 
 // A controller after power-on.
-pub fn start() -> Controller
+pub fn start() -> State
     ensures { λ r. ⌜ view r ≡ fresh ⌝ }
 {
-    let mut ram = [0u8; 32];
-    ram[0] = 0x70;
-    Controller {
-        output: Output {
-            byte: 0,
-            full: false,
-            mouse: false,
-        },
-        errors: Errors {
-            timeout: false,
-            parity: false,
-        },
-        host: Host {
-            command: false,
-            pending: 0,
-            cell: 0,
-            overlay: false,
-            nibble: 0,
-        },
-        ports: Ports {
-            pins: 0xFF,
-            p20: true,
-            p21: true,
-        },
-        sending: Sending { to: 0, byte: 0 },
-        breaks: false,
-        lock: Lock {
-            locked: false,
-            length: 0,
-            position: 0,
-            code: [0u8; 16],
-        },
-        ram,
-    }
+    let mut s = [0u8; 60];
+    s[PINS] = 0xFF;
+    s[LATCHES] = 3;
+    s[MODE] = 0x70;
+    s
 }

@@ -86,7 +86,8 @@ pub extern "C" fn calugnid_translate(byte: u8, breaks: bool) -> u16
 pub extern "C" fn calugnid_fresh_image(saved: &mut [u8]) -> u8
     ensures { λ r. ⌜ (r ≡ saveRefusal (now (saved .entry))) × (now (saved .exit) ≡ image.saved fresh (now (saved .entry))) ⌝ }
 {
-    save(start(), saved)
+    let s = start();
+    save(&s, saved)
 }
 
 // Where the body of the image at the end of the bytes starts, or their length where there is none.
@@ -119,11 +120,12 @@ pub extern "C" fn calugnid_run_image(
     if saved.len() < 68 {
         return 9;
     }
-    let loaded = load(start(), image);
-    if loaded.refusal != 0 {
-        return loaded.refusal;
+    let mut s = start();
+    let refusal = load(&mut s, image);
+    if refusal != 0 {
+        return refusal;
     }
-    let ran = run(loaded.state, list, answers);
-    save(ran.state, saved);
+    run(&mut s, list, answers);
+    save(&s, saved);
     0
 }

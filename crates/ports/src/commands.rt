@@ -8,22 +8,32 @@ use crate::lines::enable_mouse;
 use crate::lines::keyboard_off;
 use crate::lines::mode;
 use crate::lines::mouse_off;
-use crate::lines::nibble;
 use crate::lines::output_port;
 use crate::lines::put;
 use crate::lines::put_cell;
-use crate::lines::with_mode;
-use machine::state::Controller;
-use machine::state::Host;
-use machine::state::Lock;
+use crate::lines::set_mode;
+use machine::flags::with_command;
+use machine::flags::with_locked;
+use machine::state::CELL;
+use machine::state::FLAGS;
+use machine::state::LENGTH;
+use machine::state::NIBBLE;
+use machine::state::OVERLAY;
+use machine::state::PENDING;
+use machine::state::PINS;
+use machine::state::POSITION;
+use machine::state::State;
+use machine::state::sixty;
+use machine::weights::nibble;
 ghost use mathlib.Core.Path.{_≡_};
-ghost use Prim.Native.Nat.{_%_};
+ghost use Prim.Native.Nat.{_/_, _%_};
 ghost use Rattle.machine.specs.State.{lift};
+ghost use Rattle.machine.specs.Lines as lines;
 ghost use Rattle.machine.specs.Commands as command;
 ghost use Rattle.machine.specs.View.{public, view};
 
 // The pending code that each command byte leaves.
-const PENDING: [u8; 256] = [
+const PENDING_CODES: [u8; 256] = [
     // 00h
     0,
     0,
@@ -301,7 +311,7 @@ const PENDING: [u8; 256] = [
 fn pending_of(c: u8) -> u8
     ensures { λ r. ⌜ r ≡ command.pendingOf c ⌝ }
 {
-    PENDING[c as usize]
+    PENDING_CODES[c as usize]
 }
 
 // The cell that 61h-7Fh name, else 0.
@@ -312,74 +322,97 @@ fn cell_named(c: u8) -> u8
 }
 
 // The command flag is set, the overlay ends, and the pending code is the command's own.
-fn command_written(mut s: Controller, c: u8) -> Controller
-    ensures { λ r. ⌜ view r ≡ lift (command.commandWritten c) (view s) ⌝ }
+fn command_written(s: &mut State, c: u8)
+    ensures { λ _. ⌜ view (now (s .exit)) ≡ lift (command.commandWritten c) (view (now (s .entry))) ⌝ }
 {
-    let host = Host {
-        command: true,
-        pending: pending_of(c),
-        cell: cell_named(c),
-        overlay: false,
-        nibble: 0,
-    };
-    s.host = host;
-    s
+    sixty(*s);
+    let flags = s[FLAGS];
+    s[FLAGS] = with_command(flags, true);
+    s[PENDING] = pending_of(c);
+    s[CELL] = cell_named(c);
+    s[OVERLAY] = 0;
+    s[NIBBLE] = 0;
 }
 
 // A load that a command cuts short leaves no code.
-fn cut_load(s: Controller) -> Controller
-    ensures { λ r. ⌜ view r ≡ command.loadCut (view s) ⌝ }
+fn cut_load(s: &mut State)
+    ensures { λ _. ⌜ view (now (s .exit)) ≡ command.loadCut (view (now (s .entry))) ⌝ }
 {
-    let pending = s.host.pending;
-    if pending == 3 { drop_code(s) } else { s }
+    if s[PENDING] == 3 {
+        drop_code(s);
+    }
 }
 
 // Bits 4-7 of the status are replaced until the next command.
-fn overlay(mut s: Controller, n: u8) -> Controller
-    ensures { λ r. ⌜ view r ≡ lift (command.overlaid n) (view s) ⌝ }
+fn overlay(s: &mut State, n: u8)
+    ensures { λ _. ⌜ view (now (s .exit)) ≡ lift (command.overlaid n) (view (now (s .entry))) ⌝ }
 {
-    s.host.overlay = true;
-    s.host.nibble = n;
-    s
+    sixty(*s);
+    s[OVERLAY] = 1;
+    s[NIBBLE] = n;
 }
 
 // The self-test switches both devices on, sets SYS and reports success.
-fn self_test(s: Controller) -> Controller
-    ensures { λ r. ⌜ view r ≡ lift command.selfTested (view s) ⌝ }
+fn self_test(s: &mut State)
+    ensures { λ _. ⌜ view (now (s .exit)) ≡ lift command.selfTested (view (now (s .entry))) ⌝ }
 {
     let n = mode(s);
     let on = n - n / 16 % 2 * 16;
     let both = on - on / 32 % 2 * 32;
-    put(with_mode(s, both - both / 4 % 2 * 4 + 4), 0x55)
+    set_mode(s, both - both / 4 % 2 * 4 + 4);
+    put(s, 0x55);
 }
 
 // The test inputs: which devices are not off.
-fn put_test_inputs(s: Controller) -> Controller
-    ensures { λ r. ⌜ view r ≡ lift command.testInputsPut (view s) ⌝ }
+fn put_test_inputs(s: &mut State)
+    ensures { λ _. ⌜ view (now (s .exit)) ≡ lift command.testInputsPut (view (now (s .entry))) ⌝ }
 {
-    put(s, nibble(!keyboard_off(s), !mouse_off(s), false, false))
+    let inputs = nibble(!keyboard_off(s), !mouse_off(s), false, false);
+    put(s, inputs);
 }
 
-fn put_output_port(s: Controller) -> Controller
-    ensures { λ r. ⌜ view r ≡ lift command.outputPortPut (view s) ⌝ }
+fn put_output_port(s: &mut State)
+    ensures { λ _. ⌜ view (now (s .exit)) ≡ lift command.outputPortPut (view (now (s .entry))) ⌝ }
 {
-    put(s, output_port(s))
+    let port = output_port(s);
+    put(s, port);
 }
 
-fn put_named_cell(s: Controller, c: u8) -> Controller
-    ensures { λ r. ⌜ view r ≡ lift (command.namedCellPut (c % 32)) (view s) ⌝ }
+fn put_named_cell(s: &mut State, c: u8)
+    ensures { λ _. ⌜ view (now (s .exit)) ≡ lift (command.namedCellPut (c % 32)) (view (now (s .entry))) ⌝ }
 {
-    put(s, cell(s, c % 32))
+    let byte = cell(s, c % 32);
+    put(s, byte);
+}
+
+// The pins put, or half of them shown over the status.
+fn put_pins(s: &mut State)
+    ensures { λ _. ⌜ view (now (s .exit)) ≡ lift (λ p. lines.put (p .ports .pins) p) (view (now (s .entry))) ⌝ }
+{
+    let pins = s[PINS];
+    put(s, pins);
+}
+
+fn show_low_pins(s: &mut State)
+    ensures { λ _. ⌜ view (now (s .exit)) ≡ lift (λ p. command.overlaid (p .ports .pins % 16) p) (view (now (s .entry))) ⌝ }
+{
+    let pins = s[PINS];
+    overlay(s, pins % 16);
+}
+
+fn show_high_pins(s: &mut State)
+    ensures { λ _. ⌜ view (now (s .exit)) ≡ lift (λ p. command.overlaid (p .ports .pins / 16) p) (view (now (s .entry))) ⌝ }
+{
+    let pins = s[PINS];
+    overlay(s, pins / 16);
 }
 
 // The commands that concern the public part alone.
-fn plain_command(s: Controller, c: u8) -> Controller
-    ensures { λ r. ⌜ view r ≡ lift (command.plainCommand c) (view s) ⌝ }
+fn plain_command(s: &mut State, c: u8)
+    ensures { λ _. ⌜ view (now (s .exit)) ≡ lift (command.plainCommand c) (view (now (s .entry))) ⌝ }
 {
-    if (0x20 <= c) & (c <= 0x3F) {
-        return put_named_cell(s, c);
-    }
     match c {
+        0x20..=0x3F => put_named_cell(s, c),
         0xA7 => disable_mouse(s),
         0xA8 => enable_mouse(s),
         0xA9 => put(s, 0),
@@ -387,56 +420,56 @@ fn plain_command(s: Controller, c: u8) -> Controller
         0xAB => put(s, 0),
         0xAD => disable_keyboard(s),
         0xAE => enable_keyboard(s),
-        0xC0 => put(s, s.ports.pins),
-        0xC1 => overlay(s, s.ports.pins % 16),
-        0xC2 => overlay(s, s.ports.pins / 16),
+        0xC0 => put_pins(s),
+        0xC1 => show_low_pins(s),
+        0xC2 => show_high_pins(s),
         0xD0 => put_output_port(s),
         0xE0 => put_test_inputs(s),
-        _ => s,
+        _ => {}
     }
 }
 
 // A lock code has been loaded.
-fn has_code(s: Controller) -> bool
-    ensures { λ r. ⌜ r ≡ command.hasCode (view s) ⌝ }
+fn has_code(s: &State) -> bool
+    ensures { λ r. ⌜ r ≡ command.hasCode (view (now (s .entry))) ⌝ }
 {
-    let lock = s.lock;
-    lock.length != 0
+    sixty(*s);
+    s[LENGTH] != 0
 }
 
 // A4h: is there a lock code?
-fn ask_code(s: Controller) -> Controller
-    ensures { λ r. ⌜ view r ≡ command.codeAsked (view s) ⌝ }
+fn ask_code(s: &mut State)
+    ensures { λ _. ⌜ view (now (s .exit)) ≡ command.codeAsked (view (now (s .entry))) ⌝ }
 {
     if has_code(s) {
-        put(s, 0xFA)
+        put(s, 0xFA);
     } else {
-        put(s, 0xF1)
+        put(s, 0xF1);
     }
 }
 
 // Locked, with nothing typed yet.
-fn close(mut s: Controller) -> Controller
-    ensures { λ r. ⌜ view r ≡ command.closed (view s) ⌝ }
+fn close(s: &mut State)
+    ensures { λ _. ⌜ view (now (s .exit)) ≡ command.closed (view (now (s .entry))) ⌝ }
 {
-    s.lock.locked = true;
-    s.lock.position = 0;
-    s
+    sixty(*s);
+    let flags = s[FLAGS];
+    s[FLAGS] = with_locked(flags, true);
+    s[POSITION] = 0;
 }
 
 // A6h: locked, where there is a code.
-fn lock_up(s: Controller) -> Controller
-    ensures { λ r. ⌜ view r ≡ command.lockedUp (view s) ⌝ }
+fn lock_up(s: &mut State)
+    ensures { λ _. ⌜ view (now (s .exit)) ≡ command.lockedUp (view (now (s .entry))) ⌝ }
 {
     if has_code(s) {
-        put_cell(close(s), 0x13)
-    } else {
-        s
+        close(s);
+        put_cell(s, 0x13);
     }
 }
 
-fn act(s: Controller, c: u8) -> Controller
-    ensures { λ r. ⌜ view r ≡ command.acts c (view s) ⌝ }
+fn act(s: &mut State, c: u8)
+    ensures { λ _. ⌜ view (now (s .exit)) ≡ command.acts c (view (now (s .entry))) ⌝ }
 {
     match c {
         0xA4 => ask_code(s),
@@ -447,10 +480,12 @@ fn act(s: Controller, c: u8) -> Controller
 }
 
 // Port 64h written.
-pub fn write_command(s: Controller, c: u8) -> Controller
-    ensures { λ r. ⌜ view r ≡ command.writeCommand c (view s) ⌝ }
+pub fn write_command(s: &mut State, c: u8)
+    ensures { λ _. ⌜ view (now (s .exit)) ≡ command.writeCommand c (view (now (s .entry))) ⌝ }
 {
-    act(command_written(cut_load(s), c), c)
+    cut_load(s);
+    command_written(s, c);
+    act(s, c);
 }
 
 // The lines of the output port that a command pulses, as a mask.

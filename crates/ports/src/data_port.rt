@@ -2,14 +2,22 @@
 use crate::lines::enable_keyboard;
 use crate::lines::put;
 use crate::lines::put_mouse;
-use crate::lines::with_mode;
-use machine::state::Controller;
-use machine::state::Host;
-use machine::state::Lock;
-use machine::state::Ports;
-use machine::state::Sending;
+use crate::lines::set_mode;
+use machine::flags::with_command;
+use machine::state::CELL;
+use machine::state::CODE;
+use machine::state::FLAGS;
+use machine::state::LATCHES;
+use machine::state::LENGTH;
+use machine::state::PENDING;
+use machine::state::RAM;
+use machine::state::SENT;
+use machine::state::SENT_TO;
+use machine::state::State;
+use machine::state::sixty;
 ghost use mathlib.Core.Path.{_≡_};
 ghost use Prim.Native.Nat.{_<_};
+ghost use lib.ListN.{getD};
 ghost use Rattle.machine.specs.State.{lift};
 ghost use Rattle.machine.specs.DataPort as port;
 ghost use Rattle.machine.specs.View.{public, view};
@@ -18,75 +26,65 @@ ghost use Rattle.machine.specs.View.{public, view};
 const CODE_MOST: u8 = 16;
 
 // No pending code.
-pub fn settle(mut s: Controller) -> Controller
-    ensures { λ r. ⌜ view r ≡ lift port.settled (view s) ⌝ }
+pub fn settle(s: &mut State)
+    ensures { λ _. ⌜ view (now (s .exit)) ≡ lift port.settled (view (now (s .entry))) ⌝ }
 {
-    let host = Host {
-        command: s.host.command,
-        pending: 0,
-        cell: 0,
-        overlay: s.host.overlay,
-        nibble: s.host.nibble,
-    };
-    s.host = host;
-    s
+    sixty(*s);
+    s[PENDING] = 0;
+    s[CELL] = 0;
 }
 
 // The command flag falls.
-fn data_written(mut s: Controller) -> Controller
-    ensures { λ r. ⌜ view r ≡ lift port.dataWritten (view s) ⌝ }
+fn data_written(s: &mut State)
+    ensures { λ _. ⌜ view (now (s .exit)) ≡ lift port.dataWritten (view (now (s .entry))) ⌝ }
 {
-    s.host.command = false;
-    s
+    sixty(*s);
+    let flags = s[FLAGS];
+    s[FLAGS] = with_command(flags, false);
 }
 
 // A byte handed to the transmitter.
-pub fn send(mut s: Controller, to: u8, byte: u8) -> Controller
-    ensures { λ r. ⌜ view r ≡ lift (port.send to byte) (view s) ⌝ }
+pub fn send(s: &mut State, to: u8, byte: u8)
+    ensures { λ _. ⌜ view (now (s .exit)) ≡ lift (port.send to byte) (view (now (s .entry))) ⌝ }
 {
-    let sending = Sending { to, byte };
-    s.sending = sending;
-    s
+    sixty(*s);
+    s[SENT_TO] = to;
+    s[SENT] = byte;
 }
 
 // A byte to the keyboard, which is no longer off.
-fn send_keyboard(s: Controller, byte: u8) -> Controller
-    ensures { λ r. ⌜ view r ≡ lift (port.sendKeyboard byte) (view s) ⌝ }
+fn send_keyboard(s: &mut State, byte: u8)
+    ensures { λ _. ⌜ view (now (s .exit)) ≡ lift (port.sendKeyboard byte) (view (now (s .entry))) ⌝ }
 {
-    send(enable_keyboard(s), 1, byte)
+    enable_keyboard(s);
+    send(s, 1, byte);
 }
 
-fn latch(mut s: Controller, v: u8) -> Controller
-    ensures { λ r. ⌜ view r ≡ lift (port.latched v) (view s) ⌝ }
+fn latch(s: &mut State, v: u8)
+    ensures { λ _. ⌜ view (now (s .exit)) ≡ lift (port.latched v) (view (now (s .entry))) ⌝ }
 {
-    let ports = Ports {
-        pins: s.ports.pins,
-        p20: v / 1 % 2 == 1,
-        p21: v / 2 % 2 == 1,
-    };
-    s.ports = ports;
-    s
+    sixty(*s);
+    s[LATCHES] = v;
 }
 
-fn write_cell(mut s: Controller, v: u8) -> Controller
-    ensures { λ r. ⌜ view r ≡ lift (port.cellWritten v) (view s) ⌝ }
+fn write_cell(s: &mut State, v: u8)
+    ensures { λ _. ⌜ view (now (s .exit)) ≡ lift (port.cellWritten v) (view (now (s .entry))) ⌝ }
 {
-    let at = s.host.cell as usize;
-    if at < 32 {
-        s.ram[at] = v;
-        s
-    } else {
-        s
+    sixty(*s);
+    let k = s[CELL];
+    if k < 32 {
+        let at = RAM + (k as usize);
+        s[at] = v;
     }
 }
 
 // The pending codes that concern the public part alone.
-fn plain_data(s: Controller, v: u8) -> Controller
-    ensures { λ r. ⌜ view r ≡ lift (port.plainData v) (view s) ⌝ }
+fn plain_data(s: &mut State, v: u8)
+    ensures { λ _. ⌜ view (now (s .exit)) ≡ lift (port.plainData v) (view (now (s .entry))) ⌝ }
 {
-    let pending = s.host.pending;
+    let pending = s[PENDING];
     match pending {
-        1 => with_mode(s, v % 0x80),
+        1 => set_mode(s, v % 0x80),
         2 => write_cell(s, v),
         4 => latch(s, v),
         5 => put(s, v),
@@ -97,48 +95,52 @@ fn plain_data(s: Controller, v: u8) -> Controller
 }
 
 // No lock code.
-pub fn drop_code(mut s: Controller) -> Controller
-    ensures { λ r. ⌜ view r ≡ port.dropped (view s) ⌝ }
+pub fn drop_code(s: &mut State)
+    ensures { λ _. ⌜ view (now (s .exit)) ≡ port.dropped (view (now (s .entry))) ⌝ }
 {
-    s.lock.length = 0;
-    s
+    sixty(*s);
+    s[LENGTH] = 0;
 }
 
 // One more byte of the lock code, of which there are at most fifteen.
-fn append(mut s: Controller, v: u8) -> Controller
-    requires { ⌜ s .lock .length < 16 ⌝ }
-    ensures { λ r. ⌜ view r ≡ port.appended v (view s) ⌝ }
+fn append(s: &mut State, v: u8)
+    requires { ⌜ getD (now s) 10 0 < 16 ⌝ }
+    ensures { λ _. ⌜ view (now (s .exit)) ≡ port.appended v (view (now (s .entry))) ⌝ }
 {
-    let mut lock = s.lock;
-    let n = lock.length;
-    let at = n as usize;
-    lock.code[at] = v;
-    lock.length = n + 1;
-    s.lock = lock;
-    s
+    sixty(*s);
+    let n = s[LENGTH];
+    let at = CODE + (n as usize);
+    s[at] = v;
+    s[LENGTH] = n + 1;
 }
 
 // A byte of a load: 0 ends it, and so does a byte past the sixteenth, which leaves no code.
-fn load_byte(s: Controller, v: u8) -> Controller
-    ensures { λ r. ⌜ view r ≡ port.loadByte v (view s) ⌝ }
+fn load_byte(s: &mut State, v: u8)
+    ensures { λ _. ⌜ view (now (s .exit)) ≡ port.loadByte v (view (now (s .entry))) ⌝ }
 {
+    sixty(*s);
     if v == 0 {
-        return settle(s);
+        settle(s);
+        return;
     }
-    if CODE_MOST <= s.lock.length {
-        return drop_code(settle(s));
+    if CODE_MOST <= s[LENGTH] {
+        settle(s);
+        drop_code(s);
+        return;
     }
-    append(s, v)
+    append(s, v);
 }
 
 // Port 60h written.
-pub fn write_data(s: Controller, v: u8) -> Controller
-    ensures { λ r. ⌜ view r ≡ port.writeData v (view s) ⌝ }
+pub fn write_data(s: &mut State, v: u8)
+    ensures { λ _. ⌜ view (now (s .exit)) ≡ port.writeData v (view (now (s .entry))) ⌝ }
 {
-    let pending = s.host.pending;
+    let pending = s[PENDING];
+    data_written(s);
     if pending == 3 {
-        load_byte(data_written(s), v)
+        load_byte(s, v);
     } else {
-        settle(plain_data(data_written(s), v))
+        plain_data(s, v);
+        settle(s);
     }
 }

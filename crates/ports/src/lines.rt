@@ -1,216 +1,220 @@
 // What the state shows: the mode byte's bits, status, the output port, and a byte put for the host.
-use machine::state::Controller;
-use machine::state::Output;
+use machine::flags::with_output;
+use machine::state::FLAGS;
+use machine::state::LATCHES;
+use machine::state::MODE;
+use machine::state::NIBBLE;
+use machine::state::OUTPUT;
+use machine::state::OVERLAY;
+use machine::state::PINS;
+use machine::state::RAM;
+use machine::state::SENT_TO;
+use machine::state::State;
+use machine::state::sixty;
+use machine::weights::nibble;
+use machine::weights::upper;
+use machine::weights::weight;
 ghost use mathlib.Core.Path.{_≡_};
-ghost use Prim.Native.Nat.{_≤_, _<_};
+ghost use mathlib.Core.Bool.{false};
+ghost use Prim.Native.Nat.{_*_, _≤_};
 ghost use Rattle.machine.specs.State.{lift};
 ghost use Rattle.machine.specs.Lines as lines;
 ghost use Rattle.machine.specs.View.{public, view};
 
-// The cell that holds the mode byte.
-const MODE: usize = 0;
-
-// w where the line is set, else 0.
-fn weight(w: u8, set: bool) -> u8
-    ensures { λ r. ⌜ (r ≡ lines.weight w set) × (r ≤ w) ⌝ }
-{
-    if set { w } else { 0 }
-}
-
-// Four lines as a number, the first the lowest.
-pub fn nibble(a: bool, b: bool, c: bool, d: bool) -> u8
-    ensures { λ r. ⌜ (r ≡ lines.nibble a b c d) × (r < 16) ⌝ }
-{
-    weight(1, a) + weight(2, b) + weight(4, c) + weight(8, d)
-}
-
-// The mode byte: cell 0 of the RAM.
-pub fn mode(s: Controller) -> u8
-    ensures { λ r. ⌜ r ≡ lines.mode (public s) ⌝ }
-{
-    let ram = s.ram;
-    ram[MODE]
-}
-
-pub fn with_mode(mut s: Controller, mode: u8) -> Controller
-    ensures { λ r. ⌜ view r ≡ lift (lines.withMode mode) (view s) ⌝ }
-{
-    s.ram[MODE] = mode;
-    s
-}
-
 // A cell of the RAM, 0 past its end.
-pub fn cell(s: Controller, k: u8) -> u8
-    ensures { λ r. ⌜ r ≡ lines.cellOf (public s) k ⌝ }
+pub fn cell(s: &State, k: u8) -> u8
+    ensures { λ r. ⌜ r ≡ lines.cellOf (public (now (s .entry))) k ⌝ }
 {
-    let at = k as usize;
-    if at < 32 {
-        let ram = s.ram;
-        ram[at]
+    sixty(*s);
+    if k < 32 {
+        let at = RAM + (k as usize);
+        s[at]
     } else {
         0
     }
 }
 
-pub fn keyboard_off(s: Controller) -> bool
-    ensures { λ r. ⌜ r ≡ lines.keyboardOff (public s) ⌝ }
+// The mode byte: cell 0 of the RAM.
+pub fn mode(s: &State) -> u8
+    ensures { λ r. ⌜ r ≡ lines.mode (public (now (s .entry))) ⌝ }
 {
-    let ram = s.ram;
-    ram[MODE] / 16 % 2 == 1
+    s[MODE]
 }
 
-pub fn mouse_off(s: Controller) -> bool
-    ensures { λ r. ⌜ r ≡ lines.mouseOff (public s) ⌝ }
+pub fn set_mode(s: &mut State, mode: u8)
+    ensures { λ _. ⌜ view (now (s .exit)) ≡ lift (lines.withMode mode) (view (now (s .entry))) ⌝ }
 {
-    let ram = s.ram;
-    ram[MODE] / 32 % 2 == 1
+    sixty(*s);
+    s[MODE] = mode;
 }
 
-pub fn translates(s: Controller) -> bool
-    ensures { λ r. ⌜ r ≡ lines.translates (public s) ⌝ }
+pub fn keyboard_off(s: &State) -> bool
+    ensures { λ r. ⌜ r ≡ lines.keyboardOff (public (now (s .entry))) ⌝ }
 {
-    let ram = s.ram;
-    ram[MODE] / 64 % 2 == 1
+    s[MODE] / 16 % 2 == 1
+}
+
+pub fn mouse_off(s: &State) -> bool
+    ensures { λ r. ⌜ r ≡ lines.mouseOff (public (now (s .entry))) ⌝ }
+{
+    s[MODE] / 32 % 2 == 1
+}
+
+pub fn translates(s: &State) -> bool
+    ensures { λ r. ⌜ r ≡ lines.translates (public (now (s .entry))) ⌝ }
+{
+    s[MODE] / 64 % 2 == 1
+}
+
+// Output buffer full.
+pub fn output_full(s: &State) -> bool
+    ensures { λ r. ⌜ r ≡ public (now (s .entry)) .output .full ⌝ }
+{
+    s[FLAGS] / 1 % 2 == 1
+}
+
+fn from_mouse(s: &State) -> bool
+    ensures { λ r. ⌜ r ≡ public (now (s .entry)) .output .mouse ⌝ }
+{
+    s[FLAGS] / 32 % 2 == 1
+}
+
+pub fn locked(s: &State) -> bool
+    ensures { λ r. ⌜ r ≡ public (now (s .entry)) .locked ⌝ }
+{
+    s[FLAGS] / 2 % 2 == 1
 }
 
 // Input buffer full: a byte is being sent.
-pub fn input_full(s: Controller) -> bool
-    ensures { λ r. ⌜ r ≡ lines.inputFull (public s) ⌝ }
+pub fn input_full(s: &State) -> bool
+    ensures { λ r. ⌜ r ≡ lines.inputFull (public (now (s .entry))) ⌝ }
 {
-    s.sending.to != 0
+    s[SENT_TO] != 0
 }
 
 // The key switch is turned and the mode byte does not override it.
-pub fn inhibited(s: Controller) -> bool
-    ensures { λ r. ⌜ r ≡ lines.inhibited (public s) ⌝ }
+pub fn inhibited(s: &State) -> bool
+    ensures { λ r. ⌜ r ≡ lines.inhibited (public (now (s .entry))) ⌝ }
 {
-    let ram = s.ram;
-    (s.ports.pins / 128 % 2 != 1) & (ram[MODE] / 8 % 2 != 1)
+    (s[PINS] / 128 % 2 != 1) & (s[MODE] / 8 % 2 != 1)
 }
 
 // Bits 4-7 of the status.
-fn high_nibble(s: Controller) -> u8
-    ensures { λ r. ⌜ (r ≡ lines.highNibble (public s)) × (r < 16) ⌝ }
+fn high_status(s: &State) -> u8
+    ensures { λ r. ⌜ (r ≡ 16 * lines.highNibble (public (now (s .entry)))) × (r ≤ 240) ⌝ }
 {
-    if s.host.overlay {
-        s.host.nibble % 16
+    if s[OVERLAY] == 1 {
+        16 * (s[NIBBLE] % 16)
     } else {
-        nibble(
-            s.ports.pins / 128 % 2 == 1,
-            s.output.full & s.output.mouse,
-            s.errors.timeout,
-            s.errors.parity,
+        upper(
+            s[PINS] / 128 % 2 == 1,
+            output_full(s) & from_mouse(s),
+            s[FLAGS] / 64 % 2 == 1,
+            s[FLAGS] / 128 % 2 == 1,
         )
     }
 }
 
-// SYS, which the host's self-test sets.
-fn system(s: Controller) -> bool
-    ensures { λ r. ⌜ r ≡ lines.system (public s) ⌝ }
+pub fn status(s: &State) -> u8
+    ensures { λ r. ⌜ r ≡ lines.status (public (now (s .entry))) ⌝ }
 {
-    let ram = s.ram;
-    ram[MODE] / 4 % 2 == 1
+    nibble(
+        output_full(s),
+        input_full(s),
+        s[MODE] / 4 % 2 == 1,
+        s[FLAGS] / 8 % 2 == 1,
+    )
+        + high_status(s)
 }
 
-pub fn status(s: Controller) -> u8
-    ensures { λ r. ⌜ r ≡ lines.status (public s) ⌝ }
+// KIRQ or MIRQ: a full buffer, while the interrupt of the device that its byte came from is enabled.
+fn requests(s: &State) -> u8
+    ensures { λ r. ⌜ (let p = public (now (s .entry)) in (r ≡ 16 * lines.nibble (lines.keyboardRequest p) (lines.mouseRequest p) false false) × (r ≤ 32)) ⌝ }
 {
-    nibble(s.output.full, input_full(s), system(s), s.host.command) + 16 * high_nibble(s)
-}
-
-// KIRQ: a full buffer from the keyboard, while its interrupt is enabled.
-fn keyboard_request(s: Controller) -> bool
-    ensures { λ r. ⌜ r ≡ lines.keyboardRequest (public s) ⌝ }
-{
-    let ram = s.ram;
-    s.output.full & (!s.output.mouse & (ram[MODE] / 1 % 2 == 1))
-}
-
-// MIRQ: the same of the mouse.
-fn mouse_request(s: Controller) -> bool
-    ensures { λ r. ⌜ r ≡ lines.mouseRequest (public s) ⌝ }
-{
-    let ram = s.ram;
-    s.output.full & (s.output.mouse & (ram[MODE] / 2 % 2 == 1))
+    if output_full(s) {
+        if from_mouse(s) {
+            weight(32, s[MODE] / 2 % 2 == 1)
+        } else {
+            weight(16, s[MODE] / 1 % 2 == 1)
+        }
+    } else {
+        0
+    }
 }
 
 // The output port P2.
-pub fn output_port(s: Controller) -> u8
-    ensures { λ r. ⌜ r ≡ lines.outputPort (public s) ⌝ }
+pub fn output_port(s: &State) -> u8
+    ensures { λ r. ⌜ r ≡ lines.outputPort (public (now (s .entry))) ⌝ }
 {
-    nibble(s.ports.p20, s.ports.p21, false, mouse_off(s))
-        + 16
-            * nibble(
-                keyboard_request(s),
-                mouse_request(s),
-                keyboard_off(s),
-                false,
-            )
+    nibble(
+        s[LATCHES] / 1 % 2 == 1,
+        s[LATCHES] / 2 % 2 == 1,
+        false,
+        mouse_off(s),
+    )
+        + requests(s)
+        + weight(64, keyboard_off(s))
 }
 
 // A byte for the host to read, from the keyboard or the controller itself.
-pub fn put(mut s: Controller, byte: u8) -> Controller
-    ensures { λ r. ⌜ view r ≡ lift (lines.put byte) (view s) ⌝ }
+pub fn put(s: &mut State, byte: u8)
+    ensures { λ _. ⌜ view (now (s .exit)) ≡ lift (lines.put byte) (view (now (s .entry))) ⌝ }
 {
-    let output = Output {
-        byte,
-        full: true,
-        mouse: false,
-    };
-    s.output = output;
-    s
+    sixty(*s);
+    let flags = s[FLAGS];
+    s[FLAGS] = with_output(flags, true, false);
+    s[OUTPUT] = byte;
 }
 
 // A byte for the host to read, from the mouse.
-pub fn put_mouse(mut s: Controller, byte: u8) -> Controller
-    ensures { λ r. ⌜ view r ≡ lift (lines.putMouse byte) (view s) ⌝ }
+pub fn put_mouse(s: &mut State, byte: u8)
+    ensures { λ _. ⌜ view (now (s .exit)) ≡ lift (lines.putMouse byte) (view (now (s .entry))) ⌝ }
 {
-    let output = Output {
-        byte,
-        full: true,
-        mouse: true,
-    };
-    s.output = output;
-    s
+    sixty(*s);
+    let flags = s[FLAGS];
+    s[FLAGS] = with_output(flags, true, true);
+    s[OUTPUT] = byte;
 }
 
 // A cell of the RAM put, unless it is 0.
-pub fn put_cell(s: Controller, k: u8) -> Controller
-    ensures { λ r. ⌜ view r ≡ lift (lines.putCell k) (view s) ⌝ }
+pub fn put_cell(s: &mut State, k: u8)
+    ensures { λ _. ⌜ view (now (s .exit)) ≡ lift (lines.putCell k) (view (now (s .entry))) ⌝ }
 {
     let byte = cell(s, k);
-    if byte == 0 { s } else { put(s, byte) }
+    if byte != 0 {
+        put(s, byte);
+    }
 }
 
 // A device switched off or on, by bit 4 or 5 of the mode byte.
-pub fn disable_keyboard(mut s: Controller) -> Controller
-    ensures { λ r. ⌜ view r ≡ lift lines.keyboardDisabled (view s) ⌝ }
+pub fn disable_keyboard(s: &mut State)
+    ensures { λ _. ⌜ view (now (s .exit)) ≡ lift lines.keyboardDisabled (view (now (s .entry))) ⌝ }
 {
+    sixty(*s);
     let n = mode(s);
-    s.ram[MODE] = n - n / 16 % 2 * 16 + 16;
-    s
+    s[MODE] = n - n / 16 % 2 * 16 + 16;
 }
 
-pub fn enable_keyboard(mut s: Controller) -> Controller
-    ensures { λ r. ⌜ view r ≡ lift lines.keyboardEnabled (view s) ⌝ }
+pub fn enable_keyboard(s: &mut State)
+    ensures { λ _. ⌜ view (now (s .exit)) ≡ lift lines.keyboardEnabled (view (now (s .entry))) ⌝ }
 {
+    sixty(*s);
     let n = mode(s);
-    s.ram[MODE] = n - n / 16 % 2 * 16;
-    s
+    s[MODE] = n - n / 16 % 2 * 16;
 }
 
-pub fn disable_mouse(mut s: Controller) -> Controller
-    ensures { λ r. ⌜ view r ≡ lift lines.mouseDisabled (view s) ⌝ }
+pub fn disable_mouse(s: &mut State)
+    ensures { λ _. ⌜ view (now (s .exit)) ≡ lift lines.mouseDisabled (view (now (s .entry))) ⌝ }
 {
+    sixty(*s);
     let n = mode(s);
-    s.ram[MODE] = n - n / 32 % 2 * 32 + 32;
-    s
+    s[MODE] = n - n / 32 % 2 * 32 + 32;
 }
 
-pub fn enable_mouse(mut s: Controller) -> Controller
-    ensures { λ r. ⌜ view r ≡ lift lines.mouseEnabled (view s) ⌝ }
+pub fn enable_mouse(s: &mut State)
+    ensures { λ _. ⌜ view (now (s .exit)) ≡ lift lines.mouseEnabled (view (now (s .entry))) ⌝ }
 {
+    sixty(*s);
     let n = mode(s);
-    s.ram[MODE] = n - n / 32 % 2 * 32;
-    s
+    s[MODE] = n - n / 32 % 2 * 32;
 }

@@ -1,7 +1,6 @@
 // The whole text of a list: the header and a line an event, or the refusal.
 use crate::lines::write_lines;
-use controller::run::run;
-use machine::state::start;
+use controller::run::run_fresh;
 ghost use mathlib.Core.Path.{_≡_};
 ghost use mathlib.Core.List.{_++_};
 ghost use Prim.Native.Nat.{_+_, _*_, _≤_};
@@ -57,6 +56,6 @@ pub fn print_list(list: &[u8], answers: &mut [u8], out: &mut [u8]) -> usize
     if out.len() < 28 + 27 * count {
         return 0;
     }
-    run(start(), list, answers);
+    run_fresh(list, answers);
     print_answers(count, answers, out)
 }

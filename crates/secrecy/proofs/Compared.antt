@@ -8,7 +8,6 @@ use Rattle.machine.specs.State.{Machine, fresh}
 use Rattle.machine.specs.Events.{Event}
 use Rattle.machine.specs.Run.{events, answers, filled, fitting, listRefusal}
 use Rattle.machine.specs.View.{view}
-use Rattle.machine.specs.declared.state.Controller.{Controller}
 use Rattle.controller.specs.Done.{RanFresh, Went}
 use Rattle.controller.proofs.Laws.Run.{take-filled}
 use Rattle.secrecy.specs.Paired.{Paired}
@@ -37,7 +36,7 @@ compared xs s s′ ys t t′ r one other =
     }
 
 -- ---- ComparedRest
-pub compared-rest : (m n : Controller) (xs s s′ ys t t′ : List ℕ) (q r : Controller) → view m ≡ fresh → view n ≡ fresh → Went m xs s q s′ → Went n ys t r t′ → ComparedRest xs s s′ ys t t′
+pub compared-rest : (m n xs s s′ ys t t′ q r : List ℕ) → view m ≡ fresh → view n ≡ fresh → Went m xs s q s′ → Went n ys t r t′ → ComparedRest xs s s′ ys t t′
 compared-rest m n xs s s′ ys t t′ q r start start′ went went′ =
     let one = went .buffer ∙ ap (λ (k : Machine). filled k (fitting xs s) s) start in
     let other = went′ .buffer ∙ ap (λ (k : Machine). filled k (fitting ys t) t) start′ in

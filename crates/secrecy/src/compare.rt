@@ -23,6 +23,8 @@ pub fn run_both(one: &[u8], answers: &mut [u8], other: &[u8], others: &mut [u8])
 pub fn run_both_fitting(one: &[u8], answers: &mut [u8], other: &[u8], others: &mut [u8])
     ensures { λ _. ⌜ ComparedRest (now (one .entry)) (now (answers .entry)) (now (answers .exit)) (now (other .entry)) (now (others .entry)) (now (others .exit)) ⌝ }
 {
-    run_fitting(start(), one, answers);
-    run_fitting(start(), other, others);
+    let mut s = start();
+    run_fitting(&mut s, one, answers);
+    let mut t = start();
+    run_fitting(&mut t, other, others);
 }

@@ -6,16 +6,13 @@ use mathlib.Core.List.{List, [], _∷_, _++_, append-assoc, append-nil}
 use native.Mathlib.Omega.{arith}
 use native.Mathlib.Nat.{not-suc-le-zero}
 use lib.ListN.{length, getD, take, drop, length-append, length-drop, drop-of-length-le}
-use lib.Seq.{take-nil, take-at, drop-at, drop-drop, take-all, sets, sets-eq}
+use lib.Seq.{take-nil, take-at, drop-at, drop-drop, take-all}
 use Rattle.machine.specs.State.{Machine, fresh}
 use Rattle.machine.specs.Events.{Event, step, answer, reply, lines, refusal}
 use Rattle.machine.specs.Run.{events, first, after, answers, filled, fitting, lengthRefusal, listRefusal}
 use Rattle.machine.specs.Kept.{Kept}
 use Rattle.machine.specs.View.{view}
-use Rattle.controller.specs.Done.{Done, First, Went, Ran, RanFresh}
-use Rattle.machine.specs.declared.state.Controller.{Controller}
-use Rattle.controller.specs.declared.events.Outcome.{Outcome}
-use Rattle.controller.specs.declared.run.Answered.{Answered}
+use Rattle.controller.specs.Done.{Responded, Went, Ran, RanFresh}
 use Rattle.machine.proofs.Laws.Cond.{cond-both, cond-zero}
 use lib.Dec.{eqb, ltb}
 use mathlib.Core.Bool.{not, _||_}
@@ -87,20 +84,12 @@ part-all : (k : ℕ) (xs : List ℕ) → take (length xs - k) (drop k xs) ≡ dr
 part-all k xs = take-all (length xs - k) (drop k xs) (simp length-drop (omega arith))
 
 -- ---- Went
-pub first-of : (b j n : Controller) (list space : List ℕ) (o : Outcome) (space′ : List ℕ) → j ≡ b → Done j (first list) o → n ≡ o .state → space′ ≡ o .answer ++ drop 9 space → First b list space n space′
-first-of b j n list space o space′ start done state written =
-    record {
-      stepped = ap view state ∙ done .stepped ∙ ap (λ (k : Controller). step (view k) (first list)) start;
-      buffer = written ∙ ap (λ (xs : List ℕ). xs ++ drop 9 space) (done .answered ∙ ap (λ (k : Controller). answer (view k) (first list)) start);
-      kept = λ k. subst (λ (t : Controller). Kept (view t)) (sym state) (done .kept (subst (λ (t : Controller). Kept (view t)) (sym start) k));
-    }
-
-pub went-none : (s : Controller) (list space : List ℕ) → fitting list space ≡ [] → Went s list space s space
+pub went-none : (s list space : List ℕ) → fitting list space ≡ [] → Went s list space s space
 unfolding after
 went-none s list space none =
     record { after = rw none refl; buffer = rw none (sym (filled-none (view s) space)); kept = λ k. k }
 
-pub went-more : (s n : Controller) (list space mid : List ℕ) → 3 ≤ length list → 9 ≤ length space → First s list space n mid → (r : Controller) (ys : List ℕ) → Went n (take (length list - 3) (drop 3 list)) (take (length mid - 9) (drop 9 mid)) r ys → Went s list space r (take 9 mid ++ (ys ++ drop (length mid - 9) (drop 9 mid)))
+pub went-more : (s n list space mid : List ℕ) → 3 ≤ length list → 9 ≤ length space → Responded s (first list) space n mid → (r ys : List ℕ) → Went n (take (length list - 3) (drop 3 list)) (take (length mid - 9) (drop 9 mid)) r ys → Went s list space r (take 9 mid ++ (ys ++ drop (length mid - 9) (drop 9 mid)))
 went-more s n list space mid h room one r ys lent =
     let more : Went n (drop 3 list) (drop 9 mid) r ys = rw (part-all 3 list, part-all 9 mid) at lent in
     let e = first list in
@@ -124,27 +113,6 @@ went-more s n list space mid h room one r ys lent =
       kept = λ k. more .kept (one .kept k);
     }
 
--- ---- nine stores
-spelled : (a : List ℕ) → length a ≡ 9 → getD a 0 0 ∷ getD a 1 0 ∷ getD a 2 0 ∷ getD a 3 0 ∷ getD a 4 0 ∷ getD a 5 0 ∷ getD a 6 0 ∷ getD a 7 0 ∷ getD a 8 0 ∷ [] ≡ a
-spelled [] h = absurd (omega arith)
-spelled (a ∷ []) h = absurd (omega arith)
-spelled (a ∷ b ∷ []) h = absurd (omega arith)
-spelled (a ∷ b ∷ c ∷ []) h = absurd (omega arith)
-spelled (a ∷ b ∷ c ∷ d ∷ []) h = absurd (omega arith)
-spelled (a ∷ b ∷ c ∷ d ∷ e ∷ []) h = absurd (omega arith)
-spelled (a ∷ b ∷ c ∷ d ∷ e ∷ f ∷ []) h = absurd (omega arith)
-spelled (a ∷ b ∷ c ∷ d ∷ e ∷ f ∷ g ∷ []) h = absurd (omega arith)
-spelled (a ∷ b ∷ c ∷ d ∷ e ∷ f ∷ g ∷ i ∷ []) h = absurd (omega arith)
-spelled (a ∷ b ∷ c ∷ d ∷ e ∷ f ∷ g ∷ i ∷ j ∷ []) h = refl
-spelled (a ∷ b ∷ c ∷ d ∷ e ∷ f ∷ g ∷ i ∷ j ∷ k ∷ l) h = absurd (omega arith)
-
-pub nine-stores : (a xs : List ℕ) → length a ≡ 9 → 9 ≤ length xs → sets xs 0 (getD a 0 0 ∷ getD a 1 0 ∷ getD a 2 0 ∷ getD a 3 0 ∷ getD a 4 0 ∷ getD a 5 0 ∷ getD a 6 0 ∷ getD a 7 0 ∷ getD a 8 0 ∷ []) ≡ a ++ drop 9 xs
-nine-stores a xs nine room =
-    ap (sets xs 0) (spelled a nine) ∙ sets-eq a xs 0 (omega arith) ∙ ap (λ (n : ℕ). a ++ drop n xs) nine′
-  where
-    nine′ : 0 + length a ≡ 9
-    nine′ = omega arith
-
 -- ---- fitting, where the call is not refused
 pub length-events : (xs : List ℕ) → length (events xs) ≡ length xs / 3
 unfolding events
@@ -163,18 +131,18 @@ fitting-all list space a =
     take-all (length space / 9) (events list) (rw (length-events list) (omega arith))
 
 -- ---- Ran
-module _ (s : Controller) (list space : List ℕ) (r : Answered) (space′ : List ℕ) where
-  pub ran-refused : (listRefusal list space ≡ 0 → ⊥) → r .refusal ≡ listRefusal list space → r .state ≡ s → space′ ≡ space → Ran s list space r space′
+module _ (s list space : List ℕ) (n : ℕ) (s′ space′ : List ℕ) where
+  pub ran-refused : (listRefusal list space ≡ 0 → ⊥) → n ≡ listRefusal list space → s′ ≡ s → space′ ≡ space → Ran s list space n s′ space′
   ran-refused stands number state same =
       record {
         refusal = number;
         refused = λ _. (state, same);
         after = λ a. absurd (stands a);
         buffer = λ a. absurd (stands a);
-        kept = λ k. subst (λ (t : Controller). Kept (view t)) (sym state) k;
+        kept = λ k. subst (λ (t : List ℕ). Kept (view t)) (sym state) k;
       }
 
-  pub ran-accepted : listRefusal list space ≡ 0 → r .refusal ≡ 0 → Went s list space (r .state) space′ → Ran s list space r space′
+  pub ran-accepted : listRefusal list space ≡ 0 → n ≡ 0 → Went s list space s′ space′ → Ran s list space n s′ space′
   ran-accepted a number went =
       let all = fitting-all list space a in
       record {
@@ -200,8 +168,8 @@ unfolding filled
 take-filled m es space = take-at (answers m es) (drop (9 * length es) space) (9 * length es) (length-answers m es)
 
 -- ---- RanFresh
-pub ran-fresh : (s : Controller) (list space : List ℕ) (r : Answered) (space′ : List ℕ) → view s ≡ fresh → Ran s list space r space′ → RanFresh list space space′ (r .refusal)
-ran-fresh s list space r space′ start ran =
+pub ran-fresh : (s list space : List ℕ) (n : ℕ) (s′ space′ : List ℕ) → view s ≡ fresh → Ran s list space n s′ space′ → RanFresh list space space′ n
+ran-fresh s list space n s′ space′ start ran =
     record {
       refusal = ran .refusal;
       refused = λ stands. ran .refused stands .1;

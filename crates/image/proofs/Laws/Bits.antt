@@ -6,11 +6,13 @@ use mathlib.Core.Bool.{Bool, true, false}
 use native.Mathlib.Omega.{arith}
 use lib.Dec.{eqb}
 use borrow.Author.Tests.{eqb-true, eqb-false}
+use Rattle.translation.specs.Bits.{has}
 use Rattle.machine.specs.State.{Public}
+use Rattle.machine.specs.Flags.{flagsOf}
 use Rattle.machine.specs.Lines.{weight, nibble}
 use Rattle.machine.proofs.Laws.Bounds.{weight-le}
-use Rattle.image.specs.Layout.{flags, has}
-use Rattle.image.proofs.Laws.Tests.{split}
+use Rattle.image.specs.Layout.{flags}
+use Rattle.translation.proofs.Tests.{split}
 
 -- ---- weight
 pub weight-eqb : (b : Bool) → eqb (weight 1 b) 1 ≡ b
@@ -76,8 +78,24 @@ module _ (a b c d e f g h : Bool) where
   lines-6 : has lines 6 ≡ g
   lines-6 = has-line lines 6 g (omega (arith, weights, weight-le 1 a, weight-le 1 b, weight-le 1 c, weight-le 1 d, weight-le 1 e, weight-le 1 f, weight-le 1 g))
 
+  lines-7 : has lines 7 ≡ h
+  lines-7 = has-line lines 7 h (omega (arith, weights, weight-le 1 a, weight-le 1 b, weight-le 1 c, weight-le 1 d, weight-le 1 e, weight-le 1 f, weight-le 1 g, weight-le 1 h))
+
   lines-below : h ≡ false → lines < 128
   lines-below none = omega (arith, weights, ap (weight 1) none, weight-le 1 a, weight-le 1 b, weight-le 1 c, weight-le 1 d, weight-le 1 e, weight-le 1 f, weight-le 1 g)
+
+-- ---- the state's flags
+pub flagsOf-lines : (a b c d e f g h : Bool) →
+    flagsOf (nibble a b c d + 16 * nibble e f g h) ≡ record { full = a; mouse = f; command = d; timeout = g; parity = h; breaks = c; locked = b }
+flagsOf-lines a b c d e f g h = λ i. record {
+  full = lines-0 a b c d e f g h i;
+  mouse = lines-5 a b c d e f g h i;
+  command = lines-3 a b c d e f g h i;
+  timeout = lines-6 a b c d e f g h i;
+  parity = lines-7 a b c d e f g h i;
+  breaks = lines-2 a b c d e f g h i;
+  locked = lines-1 a b c d e f g h i;
+}
 
 -- ---- flags
 module _ (p : Public) where

@@ -12,7 +12,8 @@ use borrow.Author.Tests.{le-leb, lt-leb, eq-eqb, leb-true, eqb-true}
 use Rattle.image.specs.Sum.{word, sum}
 use Rattle.image.specs.Layout.{bodyLength, at}
 use Rattle.image.specs.Find.{trailerOf, bodyOf, marked, ends, found}
-use Rattle.image.proofs.Laws.Tests.{and-passed, and-failed, and-both, and-true, cond-true, cond-false}
+use Rattle.translation.proofs.Tests.{and-true}
+use Rattle.image.proofs.Laws.Tests.{and-passed, and-failed, and-both, cond-true, cond-false}
 use Rattle.image.proofs.Laws.Lists.{length-part}
 
 -- ---- trailerOf, bodyOf

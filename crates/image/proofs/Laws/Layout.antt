@@ -1,15 +1,18 @@
 -- Laws of the definitions in specs/Layout. Assumes nothing.
-use mathlib.Core.Path.{_≡_, refl, ap, ap₂, _∙_}
+use mathlib.Core.Path.{_≡_, refl, ap, ap₂, sym, _∙_}
 use mathlib.Core.List.{List, _++_}
 use Prim.Native.Nat.{ℕ, _+_, _≤_}
 use native.Mathlib.Omega.{arith}
-use lib.ListN.{length, take, drop, replicate, length-append, length-replicate}
+use lib.ListN.{length, take, drop, set, replicate, length-append, length-replicate}
 use lib.Seq.{paste, take-at, drop-at, take-all, take-append-seam}
-use Rattle.machine.specs.State.{Machine}
-use Rattle.image.specs.Layout.{bodyLength, imageLength, head, padded, body, trailer, image, machineOf}
+use Rattle.machine.specs.State.{Machine, lift, withRam}
+use Rattle.machine.specs.Flags.{flagsOf}
+use Rattle.machine.specs.View.{view}
+use Rattle.machine.proofs.Laws.View.{flagged, set-flags, ram-of}
+use Rattle.image.specs.Layout.{bodyLength, imageLength, head, padded, body, trailer, image, at, flagsIn, machineOf}
 use Rattle.image.proofs.Laws.Bits.{flags-full, flags-mouse, flags-command, flags-timeout, flags-parity, flags-breaks, flags-locked, latches-0, latches-1, eqb-nibble}
 use Rattle.image.proofs.Laws.Lists.{take-shown, drop-replicate}
-use Rattle.image.proofs.Laws.Copy.{paste-first, paste-next}
+use Rattle.image.proofs.Laws.Copy.{paste-first, paste-whole, paste-next}
 
 -- ---- padded
 pub length-padded : (code : List ℕ) → length code ≤ 16 → length (padded code) ≡ 16
@@ -32,25 +35,25 @@ length-body m short long =
     omega (arith, length-append (head m ++ c) (m .plain .ram), length-append (head m) c, length-padded (m .secret .code) short)
 
 -- the parts copied one after the other to the front of d
-pub body-written : (m : Machine) (d d₁ d₂ d₃ first code : List ℕ) → length (m .secret .code) ≤ 16 → length (m .plain .ram) ≡ 32 →
+pub body-written : (m : Machine) (d d₁ d₂ d₃ first code ram : List ℕ) → length (m .secret .code) ≤ 16 → length (m .plain .ram) ≡ 32 →
     first ≡ head m →
     code ≡ padded (m .secret .code) →
+    m .plain .ram ≡ ram →
     d₁ ≡ paste d 0 first (length first) →
     d₂ ≡ paste d₁ 12 code (length code) →
-    d₃ ≡ paste d₂ 28 (m .plain .ram) (length (m .plain .ram)) →
+    d₃ ≡ paste d₂ 28 ram (length ram) →
     d₃ ≡ body m ++ drop bodyLength d
 unfolding body
-body-written m d d₁ d₂ d₃ first code short long e f e₁ e₂ e₃ =
+body-written m d d₁ d₂ d₃ first code ram short long e f g e₁ e₂ e₃ =
     let c = padded (m .secret .code) in
-    let ram = m .plain .ram in
     let c-long : length c ≡ 16 = length-padded (m .secret .code) short in
     let s₁ : d₁ ≡ head m ++ drop 12 d = e₁ ∙ ap (λ (x : List ℕ). paste d 0 x (length x)) e ∙ paste-first d (head m) in
     let s₂ : d₂ ≡ head m ++ c ++ drop 28 d =
     e₂ ∙ ap₂ (λ (x y : List ℕ). paste x 12 y (length y)) s₁ f ∙ paste-next (head m) d c 12 refl
     ∙ ap (λ (k : ℕ). head m ++ c ++ drop (12 + k) d) c-long in
-    e₃ ∙ ap (λ (x : List ℕ). paste x 28 ram (length ram)) s₂
-    ∙ paste-next (head m ++ c) d ram 28 (length-append (head m) c ∙ ap (λ (k : ℕ). 12 + k) c-long)
-    ∙ ap (λ (k : ℕ). head m ++ c ++ ram ++ drop (28 + k) d) long
+    e₃ ∙ ap₂ (λ (x y : List ℕ). paste x 28 y (length y)) s₂ (sym g)
+    ∙ paste-next (head m ++ c) d (m .plain .ram) 28 (length-append (head m) c ∙ ap (λ (k : ℕ). 12 + k) c-long)
+    ∙ ap (λ (k : ℕ). head m ++ c ++ m .plain .ram ++ drop (28 + k) d) long
 
 -- ---- image
 -- the trailer copied behind the body
@@ -101,3 +104,15 @@ machineOf-body m short long =
       };
       secret = record { code = code i; position = m .secret .position };
     }
+
+-- the machine of a body is the machine that its bytes stand for as a state, with the flags of byte 1
+machineOf-flagged : (b : List ℕ) → length b ≡ bodyLength → flagged (flagsIn (at b 1)) (view b) ≡ machineOf b
+unfolding machineOf
+machineOf-flagged b long = ap (λ (ram : List ℕ). lift (λ p. withRam p ram) (machineOf b)) (ram-of b long)
+
+-- a state with the bytes of a body copied over it, and the flags put in their places
+pub view-read : (s b d : List ℕ) (f : ℕ) → length s ≡ 60 → length b ≡ bodyLength → flagsOf f ≡ flagsIn (at b 1) →
+    d ≡ paste s 0 b (length b) →
+    view (set d 1 f) ≡ machineOf b
+view-read s b d f old new same e =
+    ap (λ (x : List ℕ). view (set x 1 f)) (e ∙ paste-whole s b (omega arith)) ∙ set-flags b new f (flagsIn (at b 1)) same ∙ machineOf-flagged b new

@@ -11,7 +11,8 @@ use Rattle.image.specs.Layout.{bodyLength, machineOf}
 use Rattle.image.specs.Find.{ends, found}
 use Rattle.image.specs.Rules.{bodyKept}
 use Rattle.image.specs.Load.{loadRefusal, loaded}
-use Rattle.image.proofs.Laws.Tests.{split, cond-true, cond-false}
+use Rattle.translation.proofs.Tests.{split}
+use Rattle.image.proofs.Laws.Tests.{cond-true, cond-false}
 use Rattle.image.proofs.Laws.Find.{ends-sealed, found-none, found-body, length-bodyOf}
 
 -- ---- found

@@ -17,7 +17,7 @@ use Rattle.image.specs.Save.{saved}
 use Rattle.image.specs.Find.{lastBytes, ends, found}
 use Rattle.image.specs.Rules.{every, isZero, nonzero, bodyKept}
 use Rattle.image.specs.Load.{loadRefusal, loaded}
-use Rattle.image.proofs.Laws.Tests.{split}
+use Rattle.translation.proofs.Tests.{split}
 use Rattle.image.proofs.Laws.Lists.{listed, take-listed, Below, below-take, below-drop, length-part}
 use Rattle.image.proofs.Laws.Bits.{flags-full, flags-mouse, flags-locked, flags-below, flags-byte, latches-below, latches-byte, overlay-below, overlay-byte, eqb-nibble}
 use Rattle.image.proofs.Laws.Layout.{length-body, code-part, drop-28, machineOf-body}

@@ -10,9 +10,11 @@ use lib.ListN.{length, getD, take, drop, replicate, drop-of-length-le}
 use lib.Dec.{eqb, leb, ltb}
 use borrow.Author.Tests.{lt-ltb, le-leb, eq-eqb, ne-eqb, ltb-true, leb-true, eqb-true, eqb-false}
 use lib.Seq.{drop-cons}
+use Rattle.translation.specs.Bits.{has}
 use Rattle.image.specs.Rules.{every, isZero, nonzero, flagsKept, latchesKept, pendingKept, overlayKept, sendingKept, codeKept, lockKept, modeKept, bodyKept}
-use Rattle.image.specs.Layout.{at, has}
-use Rattle.image.proofs.Laws.Tests.{split, and-passed, and-failed, and-both, and-true, cond-shows, cond-passes}
+use Rattle.image.specs.Layout.{at}
+use Rattle.translation.proofs.Tests.{split, and-true}
+use Rattle.image.proofs.Laws.Tests.{and-passed, and-failed, and-both, cond-shows, cond-passes}
 
 -- ---- every
 pub every-at : (test : ℕ → Bool) (l : List ℕ) → every test l ≡ true → (k : ℕ) → k < length l → test (getD l k 0) ≡ true

@@ -1,12 +1,8 @@
 -- Tests: what a conjunction or a choice comes to once its first test is known, and what a test that passed shows of its parts.
 -- Assumes nothing.
-use mathlib.Core.Path.{_≡_, refl, sym, ap, _∙_}
-use mathlib.Core.Bool.{Bool, true, false, cond, _&&_, false≢true}
-
--- either way of a test
-pub split : {A : Type 0} (t : Bool) → (t ≡ true → A) → (t ≡ false → A) → A
-split true one other = one refl
-split false one other = other refl
+use mathlib.Core.Path.{_≡_, sym, ap, _∙_}
+use mathlib.Core.Bool.{Bool, true, false, cond, _&&_}
+use Rattle.translation.proofs.Tests.{split}
 
 -- ---- _&&_
 pub and-passed : (s t : Bool) → s ≡ true → (s && t) ≡ t
@@ -17,10 +13,6 @@ and-failed s t e = ap (λ (x : Bool). x && t) e
 
 pub and-both : (s t : Bool) → s ≡ true → t ≡ true → (s && t) ≡ true
 and-both s t e f = and-passed s t e ∙ f
-
-pub and-true : (s t : Bool) → (s && t) ≡ true → (s ≡ true) × (t ≡ true)
-and-true true t e = (refl, e)
-and-true false t e = absurd (false≢true e)
 
 -- ---- cond
 pub cond-true : {A : Type 0} (s : Bool) (x y : A) → s ≡ true → cond s x y ≡ x

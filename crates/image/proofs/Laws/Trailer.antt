@@ -11,7 +11,7 @@ use borrow.Author.Tests.{eqb-true}
 use Rattle.image.specs.Sum.{word, lowByte, highByte, sum}
 use Rattle.image.specs.Layout.{at, trailer}
 use Rattle.image.specs.Find.{lastBytes, trailerOf, bodyOf, marked}
-use Rattle.image.proofs.Laws.Tests.{and-true}
+use Rattle.translation.proofs.Tests.{and-true}
 use Rattle.image.proofs.Laws.Lists.{listed, take-listed, Below, below-drop}
 use Rattle.image.proofs.Laws.Sum.{sum-below, word-of-bytes, low-of-word, high-of-word}
 use Rattle.image.proofs.Laws.Find.{Sealed, length-bodyOf}

@@ -1,4 +1,5 @@
--- `added` is safe and ends: the invariant keeps the index within the bytes, and the measure is what is left of them. Assumes nothing.
+-- `image_tests::added` is safe and ends. The invariant keeps the index within the bytes, and the measure is what is left of them.
+-- Assumes nothing.
 use Prim.Native.Nat.{_≤_, _<_, _-_}
 use borrow.Author.Needs.{needs}
 use lib.ListN.{length}

@@ -1,4 +1,5 @@
--- `placed` is safe and ends: the invariant keeps both indices within their arrays, and the measure is what is left of the image. Assumes nothing.
+-- `image_tests::placed` is safe and ends. The invariant keeps both indices within their arrays, and the measure is what is left of the image.
+-- Assumes nothing.
 use Prim.Native.Nat.{_≤_, _-_}
 use mathlib.Core.Path.{_≡_}
 use borrow.Author.Needs.{needs}

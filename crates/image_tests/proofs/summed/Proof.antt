@@ -1,4 +1,5 @@
--- `summed` is safe and ends: the invariant keeps the index within the body's words, and the measure is what is left of them. Assumes nothing.
+-- `image_tests::summed` is safe and ends. The invariant keeps the index within the body's words, and the measure is what is left of them.
+-- Assumes nothing.
 use Prim.Native.Nat.{_≤_, _<_, _-_}
 use borrow.Author.Needs.{needs}
 use Rattle.image_tests.proofs.summed.Statement.{statement}

@@ -1,4 +1,5 @@
--- `try_bodies` ends: the measure is how many bodies are left to try. Assumes nothing.
+-- `image_tests::try_bodies` ends. The measure is how many bodies are left to try.
+-- Assumes nothing.
 use Prim.Native.Nat.{_≤_, _-_}
 use borrow.Author.Needs.{needs}
 use Rattle.image_tests.proofs.try_bodies.Statement.{statement}

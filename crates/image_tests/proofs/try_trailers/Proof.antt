@@ -1,4 +1,5 @@
--- `try_trailers` ends: the measure is how many bytes of the trailer are left to change. Assumes nothing.
+-- `image_tests::try_trailers` ends. The measure is how many bytes of the trailer are left to change.
+-- Assumes nothing.
 use Prim.Native.Nat.{_≤_, _-_}
 use borrow.Author.Needs.{needs}
 use Rattle.image_tests.proofs.try_trailers.Statement.{statement}

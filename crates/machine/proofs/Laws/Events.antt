@@ -1,12 +1,12 @@
 -- What an accepted event shows of the machine, and the machine after each kind of event.
 -- Assumes nothing.
-use Prim.Native.Nat.{ℕ, _≤_}
+use Prim.Native.Nat.{ℕ, _≤_, _<_}
 use native.Mathlib.Omega.{arith}
 use mathlib.Core.List.{_∷_}
 use mathlib.Core.Path.{_≡_}
 use mathlib.Core.Bool.{true, false, not, _&&_, _||_}
 use lib.Dec.{eqb, ltb}
-use borrow.Author.Tests.{eqb-true, eqb-false, ltb-false, ne-eqb, not-true, not-false}
+use borrow.Author.Tests.{eqb-true, eqb-false, lt-ltb, ltb-false, ne-eqb, not-true, not-false}
 use Rattle.translation.specs.Frames.{check}
 use Rattle.machine.specs.State.{Public, Machine, lift}
 use Rattle.machine.specs.Lines.{inputFull}
@@ -67,6 +67,11 @@ module _ (p : Public) (e : Event) (a : refusal p e ≡ 0) where
   accepted-end s = eqb-false _ _ (not-true _ (not-false _ (and-false _ _ (accepted p e a .idle) s)))
 
 -- ---- step
+-- a kind above 8
+pub refusal-kind : (p : Public) (e : Event) → 8 < e .kind → refusal p e ≡ 1
+unfolding refusal
+refusal-kind p e h = simp (lt-ltb 8 (e .kind) h)
+
 pub step-accepted : (m : Machine) (e : Event) → refusal (m .plain) e ≡ 0 → step m e ≡ accept m e
 unfolding step
 step-accepted m e a = simp a

@@ -9,9 +9,7 @@ use borrow.Author.Tests.{eq-eqb, ne-eqb, lt-ltb, le-ltb}
 use Rattle.machine.specs.State.{Machine}
 use Rattle.machine.specs.Run.{events, after, filled, listRefusal}
 use Rattle.machine.specs.View.{view}
-use Rattle.machine.specs.declared.state.Controller.{Controller}
 use Rattle.controller.specs.Done.{Ran}
-use Rattle.controller.specs.declared.run.Answered.{Answered}
 use Rattle.image.specs.Layout.{bodyLength, machineOf}
 use Rattle.image.specs.Find.{found}
 use Rattle.image.specs.Load.{loadRefusal}
@@ -44,8 +42,8 @@ module _ (image list space room : List ℕ) where
         imaged = λ a. absurd (stands (e ∙ a));
       }
 
-  pub resumed-ran : (s : Controller) (r : Answered) (space′ room′ : List ℕ) → 0 ≡ resumeRefusal image list space room → listRefusal list space ≡ 0 → view s ≡ machineOf (found image) → Ran s list space r space′ → room′ ≡ saved (view (r .state)) room → Resumed image list space space′ room room′ 0
-  resumed-ran s r space′ room′ zero a start ran wrote =
+  pub resumed-ran : (s : List ℕ) (n : ℕ) (s′ space′ room′ : List ℕ) → 0 ≡ resumeRefusal image list space room → listRefusal list space ≡ 0 → view s ≡ machineOf (found image) → Ran s list space n s′ space′ → room′ ≡ saved (view s′) room → Resumed image list space space′ room room′ 0
+  resumed-ran s n s′ space′ room′ zero a start ran wrote =
       record {
         refusal = zero;
         refused = λ stands. absurd (stands (sym zero));

@@ -1,9 +1,9 @@
 -- `panel::calugnid_fresh_image` meets its contract. The state that `start` makes is the fresh machine's.
 -- Assumes nothing.
+use borrow.Author.Needs.{needs}
 use mathlib.Core.Path.{ap, _∙_}
 use Rattle.machine.specs.State.{Machine}
 use Rattle.image.specs.Save.{saved}
-use borrow.Author.Needs.{needs}
 use Rattle.panel.proofs.calugnid_fresh_image.Statement.{statement}
 use Rattle.panel.proofs.calugnid_fresh_image.Tie as tie
 
@@ -17,9 +17,7 @@ same-length : tie.Need-same-length
 same-length c = search needs
 
 returns : tie.Need-returns
-returns c =
-    let s = c .before .before .save in
-    (s .ensures .0, s .ensures .1 ∙ ap (λ (m : Machine). saved m (c .before .before .before .before .before .before .args .saved .now)) (c .before .before .before .before .start .ensures))
+returns c = (c .before .before .save .ensures .0, c .before .before .save .ensures .1 ∙ ap (λ (m : Machine). saved m (c .before .before .before .before .before .before .before .args .saved .now)) (c .before .before .before .before .before .start .ensures))
 
 pub calugnid-fresh-image-spec : {M : Type 1} → statement M
 calugnid-fresh-image-spec = tie.close (tie.spec start-requires save-requires same-length returns)

@@ -1,10 +1,10 @@
 -- `controller::frames::advance` meets its contract. The test is the definition's own, and the callees' rules follow one another.
 -- Assumes nothing.
-use mathlib.Core.Path.{_≡_, ap, sym, _∙_}
+use borrow.Author.Needs.{needs}
+use mathlib.Core.Path.{ap, sym, _∙_}
 use Rattle.machine.specs.State.{lift}
 use Rattle.machine.specs.Lines.{putCell}
 use Rattle.machine.specs.Frames.{advanced}
-use borrow.Author.Needs.{needs}
 use Rattle.controller.proofs.frames.advance.Statement.{statement}
 use Rattle.controller.proofs.frames.advance.Tie as tie
 
@@ -17,19 +17,22 @@ open-lock-requires c κs = search needs
 put-cell-requires : tie.Need-put-cell-requires
 put-cell-requires c κs = search needs
 
-add-positioned : tie.Need-add-positioned
-add-positioned c = search needs
+element-copy-out-k : tie.Need-element-copy-out-k
+element-copy-out-k c = search needs
 
-positioned-requires : tie.Need-positioned-requires
-positioned-requires c κs = search needs
+add-set-position : tie.Need-add-set-position
+add-set-position c = search needs
+
+set-position-requires : tie.Need-set-position-requires
+set-position-requires c κs = search needs
 
 returns : tie.Need-returns
 unfolding advanced
-returns c = c .put-cell .ensures ∙ ap (lift (putCell _)) (c .before .open-lock .ensures) ∙ simp (sym (c .before .before .before .completes .ensures) ∙ c .before .before .if1 .taken)
+returns c = c .put-cell .ensures ∙ ap (lift (putCell _)) (c .before .before .open-lock .ensures) ∙ simp (sym (c .before .before .before .before .before .completes .ensures) ∙ c .before .before .before .before .if1 .taken)
 
 returns-2 : tie.Need-returns-2
 unfolding advanced
-returns-2 c = c .positioned .ensures ∙ simp (sym (c .before .before .before .completes .ensures) ∙ c .before .before .if1 .left)
+returns-2 c = c .set-position .ensures ∙ simp (sym (c .before .before .before .before .completes .ensures) ∙ c .before .before .before .if1 .left)
 
 pub advance-spec : {M : Type 1} → statement M
 advance-spec =
@@ -38,7 +41,8 @@ advance-spec =
     completes-requires
     open-lock-requires
     put-cell-requires
-    add-positioned
-    positioned-requires
+    element-copy-out-k
+    add-set-position
+    set-position-requires
     returns
     returns-2)

@@ -1,21 +1,23 @@
 -- `controller::frames::code_length` meets its contract. The code is the first n bytes of sixteen, so its length is the smaller of n and 16.
 -- Assumes nothing.
-use mathlib.Core.Path.{_≡_, ap, sym, _∙_}
 use borrow.Author.Needs.{needs}
-use lib.ListN.{length}
 use native.Mathlib.Omega.{arith}
-use Rattle.machine.proofs.Laws.View.{code-length}
+use lib.ListN.{getD, take, drop}
+use Rattle.machine.proofs.Laws.View.{code-length, code-long}
 use Rattle.controller.proofs.frames.code_length.Statement.{statement}
 use Rattle.controller.proofs.frames.code_length.Tie as tie
 
-long : (c : tie.Start) → length (c .args .s .lock .code) ≡ 16
-long c = search needs
+sixty-requires : tie.Need-sixty-requires
+sixty-requires c κs = search needs
+
+element-copy-out-n : tie.Need-element-copy-out-n
+element-copy-out-n c = search needs
 
 returns : tie.Need-returns
-returns c = (omega (arith, code-length (c .before .args .s .lock .length) (c .before .args .s .lock .code) (long (c .before))), search needs)
+returns c = (omega (arith, code-length (getD (c .before .before .before .before .args .s .now) 10 0) (take 16 (drop 12 (c .before .before .before .before .args .s .now))) (code-long (c .before .before .before .before .args .s .now) (c .before .before .sixty .ensures)), c .if1 .taken), omega arith)
 
 returns-2 : tie.Need-returns-2
-returns-2 c = (omega (arith, code-length (c .before .args .s .lock .length) (c .before .args .s .lock .code) (long (c .before))), search needs)
+returns-2 c = (omega (arith, code-length (getD (c .before .before .before .before .args .s .now) 10 0) (take 16 (drop 12 (c .before .before .before .before .args .s .now))) (code-long (c .before .before .before .before .args .s .now) (c .before .before .sixty .ensures)), c .if1 .left), c .if1 .left)
 
 pub code-length-spec : {M : Type 1} → statement M
-code-length-spec = tie.close (tie.spec returns returns-2)
+code-length-spec = tie.close (tie.spec sixty-requires element-copy-out-n returns returns-2)

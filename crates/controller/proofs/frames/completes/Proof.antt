@@ -4,6 +4,9 @@ use borrow.Author.Needs.{needs}
 use Rattle.controller.proofs.frames.completes.Statement.{statement}
 use Rattle.controller.proofs.frames.completes.Tie as tie
 
+element-copy-out-k : tie.Need-element-copy-out-k
+element-copy-out-k c = search needs
+
 add-result : tie.Need-add-result
 add-result c = search needs
 
@@ -14,4 +17,4 @@ returns : tie.Need-returns
 returns c = simp (c .code-length .ensures .0)
 
 pub completes-spec : {M : Type 1} → statement M
-completes-spec = tie.close (tie.spec add-result code-length-requires returns)
+completes-spec = tie.close (tie.spec element-copy-out-k add-result code-length-requires returns)

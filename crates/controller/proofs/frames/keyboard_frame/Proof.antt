@@ -1,8 +1,8 @@
 -- `controller::frames::keyboard_frame` meets its contract. Each verdict is a case of the definition.
 -- Assumes nothing.
-use mathlib.Core.Path.{_≡_, ap, sym, _∙_}
-use Rattle.machine.specs.Frames.{keyboardFrame}
 use borrow.Author.Needs.{needs}
+use mathlib.Core.Path.{ap, sym, _∙_}
+use Rattle.machine.specs.Frames.{keyboardFrame}
 use Rattle.controller.proofs.frames.keyboard_frame.Statement.{statement}
 use Rattle.controller.proofs.frames.keyboard_frame.Tie as tie
 
@@ -26,15 +26,15 @@ damaged-key-requires-2 c κs = search needs
 
 returns : tie.Need-returns
 unfolding keyboardFrame
-returns c = c .sound-key .ensures ∙ simp (c .before .before .v .given .1)
+returns c = c .sound-key .ensures ∙ simp (c .before .before .before .v .given .1)
 
 returns-2 : tie.Need-returns-2
 unfolding keyboardFrame
-returns-2 c = c .damaged-key .ensures ∙ simp (c .before .enum-told .given .1)
+returns-2 c = c .damaged-key .ensures ∙ simp (c .before .before .enum-told .given .1)
 
 returns-3 : tie.Need-returns-3
 unfolding keyboardFrame
-returns-3 c = c .damaged-key2 .ensures ∙ simp (c .before .enum-told2 .given .1)
+returns-3 c = c .damaged-key2 .ensures ∙ simp (c .before .before .enum-told2 .given .1)
 
 pub keyboard-frame-spec : {M : Type 1} → statement M
 keyboard-frame-spec =

@@ -1,8 +1,8 @@
 -- `controller::frames::keyed` meets its contract. Each answer of the translation is a case of the definition.
 -- Assumes nothing.
-use mathlib.Core.Path.{_≡_, ap, sym, _∙_}
-use Rattle.machine.specs.Frames.{keyed}
 use borrow.Author.Needs.{needs}
+use mathlib.Core.Path.{ap, sym, _∙_}
+use Rattle.machine.specs.Frames.{keyed}
 use Rattle.controller.proofs.frames.keyed.Statement.{statement}
 use Rattle.controller.proofs.frames.keyed.Tie as tie
 
@@ -21,7 +21,7 @@ returns c = simp (c .enum-told .given .1)
 
 returns-2 : tie.Need-returns-2
 unfolding keyed
-returns-2 c = c .keyed-byte .ensures ∙ simp (c .before .before .yields .given .1)
+returns-2 c = c .keyed-byte .ensures ∙ simp (c .before .before .before .yields .given .1)
 
 pub keyed-spec : {M : Type 1} → statement M
 keyed-spec = tie.close (tie.spec enum-told enum-known-yields keyed-byte-requires returns returns-2)

@@ -1,21 +1,21 @@
 -- `controller::frames::taken` meets its contract. The callees' rules follow one another as in the definition.
 -- Assumes nothing.
-use mathlib.Core.Path.{_≡_, ap, sym, _∙_}
+use borrow.Author.Needs.{needs}
+use mathlib.Core.Path.{ap, sym, _∙_}
 use mathlib.Core.Bool.{false}
 use Rattle.machine.specs.State.{lift}
 use Rattle.machine.specs.Frames.{judged}
-use borrow.Author.Needs.{needs}
 use Rattle.controller.proofs.frames.taken.Statement.{statement}
 use Rattle.controller.proofs.frames.taken.Tie as tie
 
 send-requires : tie.Need-send-requires
 send-requires c κs = search needs
 
-judged-requires : tie.Need-judged-requires
-judged-requires c κs = search needs
+set-errors-requires : tie.Need-set-errors-requires
+set-errors-requires c κs = search needs
 
 returns : tie.Need-returns
-returns c = c .judged .ensures ∙ ap (lift (judged false false)) (c .before .send .ensures)
+returns c = c .set-errors .ensures ∙ ap (lift (judged false false)) (c .before .before .send .ensures)
 
 pub taken-spec : {M : Type 1} → statement M
-taken-spec = tie.close (tie.spec send-requires judged-requires returns)
+taken-spec = tie.close (tie.spec send-requires set-errors-requires returns)

@@ -1,10 +1,11 @@
--- `copy_in` meets its contract. The loop's invariant: `out` is as it was with the first i bytes of `src` copied in from `at`; the measure is
--- what is left of `src`. Assumes nothing.
+-- `image::copy::copy_in` meets its contract. The loop's invariant: `out` is as it was with the first i bytes of `src` copied in from `at`; the measure is
+-- what is left of `src`.
+-- Assumes nothing.
 use Prim.Native.Nat.{_-_, _≤_}
 use mathlib.Core.Path.{_≡_, ap, _∙_}
 use native.Mathlib.Numerals.{add-one}
 use native.Mathlib.Omega.{arith}
-use lib.ListN.{length, set, length-set}
+use lib.ListN.{length, length-set}
 use lib.Seq.{paste, paste-zero, paste-suc}
 use denote.Ref.{now}
 use Rattle.image.proofs.copy.copy_in.Statement.{statement}

@@ -1,4 +1,5 @@
--- `ends` meets its contract: with bytes enough, its tests are the definition's, read where the trailer's bytes stand. Assumes nothing.
+-- `image::find::ends` meets its contract. With bytes enough, its tests are the definition's, read where the trailer's bytes stand.
+-- Assumes nothing.
 use Prim.Native.Nat.{_+_, _≤_}
 use mathlib.Core.Path.{sym, ap, _∙_}
 use native.Mathlib.Omega.{arith}

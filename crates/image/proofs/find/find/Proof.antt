@@ -1,4 +1,4 @@
--- `find` meets its contract: an image that passes check 10 has 60 as its distance, so what the trailer points back to are the 60 bytes before it.
+-- `image::find::find` meets its contract. An image that passes check 10 has 60 as its distance, so what the trailer points back to are the 60 bytes before it.
 -- Assumes nothing.
 use Prim.Native.Nat.{ℕ, _-_}
 use mathlib.Core.Path.{_≡_, sym, ap, _∙_}

@@ -1,4 +1,5 @@
--- `marked` meets its contract: byte k of a trailer that starts at `at` is byte `at` + k. Assumes nothing.
+-- `image::find::marked` meets its contract. Byte k of a trailer that starts at `at` is byte `at` + k.
+-- Assumes nothing.
 use lib.Seq.{getD-drop}
 use borrow.Author.Needs.{needs}
 use Rattle.image.proofs.find.marked.Statement.{statement}

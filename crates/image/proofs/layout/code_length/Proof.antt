@@ -1,20 +1,26 @@
--- `code_length` meets its contract: the code that the state shows is the first bytes of an array of 16, as many as `length` says, or all 16.
+-- `image::layout::code_length` meets its contract. The code is the first bytes of sixteen, as many as byte 10 says, or all of them.
 -- Assumes nothing.
 use Prim.Native.Nat.{min}
 use mathlib.Core.Path.{_≡_}
 use native.Mathlib.Omega.{arith}
-use lib.ListN.{length}
+use lib.ListN.{length, getD, take, drop}
+use denote.Ref.{now}
 use borrow.Author.Needs.{needs}
 use Rattle.machine.specs.View.{view}
-use Rattle.machine.proofs.Laws.View.{code-length}
+use Rattle.machine.proofs.Laws.View.{code-length, code-long}
 use Rattle.image.proofs.layout.code_length.Statement.{statement}
 use Rattle.image.proofs.layout.code_length.Tie as tie
 
-long : (c : tie.Start) → length (c .args .s .lock .code) ≡ 16
-long c = search needs
+shown : (c : tie.After-sixty) → length (view (now (c .before .before .args .s)) .secret .code) ≡ min (getD (now (c .before .before .args .s)) 10 0) 16
+shown c =
+    let s = now (c .before .before .args .s) in
+    code-length (getD s 10 0) (take 16 (drop 12 s)) (code-long s (c .sixty .ensures))
 
-shown : (c : tie.Start) → length (view (c .args .s) .secret .code) ≡ min (c .args .s .lock .length) 16
-shown c = code-length (c .args .s .lock .length) (c .args .s .lock .code) (long c)
+sixty-requires : tie.Need-sixty-requires
+sixty-requires c κs = search needs
+
+element-copy-out-n : tie.Need-element-copy-out-n
+element-copy-out-n c = search needs
 
 returns : tie.Need-returns
 returns c = omega (arith, shown (c .before .before))
@@ -23,4 +29,4 @@ returns-2 : tie.Need-returns-2
 returns-2 c = omega (arith, shown (c .before .before))
 
 pub code-length-spec : {M : Type 1} → statement M
-code-length-spec = tie.close (tie.spec returns returns-2)
+code-length-spec = tie.close (tie.spec sixty-requires element-copy-out-n returns returns-2)

@@ -1,4 +1,5 @@
--- `trailer` meets its contract: the sum is what the callee ensures, and the other bytes are the definition's own. Assumes nothing.
+-- `image::layout::trailer` meets its contract. The sum is what the callee ensures, and the other bytes are the definition's own.
+-- Assumes nothing.
 use borrow.Author.Needs.{needs}
 use Rattle.image.specs.Layout.{trailer}
 use Rattle.image.proofs.layout.trailer.Statement.{statement}

@@ -1,4 +1,4 @@
--- `load` meets its contract: no body was found exactly where check 10 stands, and the callees judge the body that was found and make its state.
+-- `image::load::load` meets its contract. No body was found exactly where check 10 stands, and the callees judge the body that was found and read it.
 -- Assumes nothing.
 use mathlib.Core.Path.{_≡_, refl, sym, ap, subst, _∙_}
 use mathlib.Core.Bool.{true}
@@ -31,7 +31,7 @@ returns c =
     let start = c .before .before .before in
     let bytes = now (start .args .bytes) in
     let refused = loadRefusal-none bytes (ends-found bytes (sym (ap length (c .before .find .ensures)) ∙ c .if1 .taken)) in
-    (sym refused, (λ _. refl, (sym (loaded-refused (view (start .args .s)) bytes 10 refused (eqb-false 10 0 refl)), λ k. k)))
+    (sym refused, (λ _. refl, (sym (loaded-refused (view (now (start .args .s))) bytes 10 refused (eqb-false 10 0 refl)), λ k. k)))
 
 body-kept-requires : tie.Need-body-kept-requires
 body-kept-requires c κs = sixty c
@@ -43,26 +43,26 @@ returns-2 c =
     let bytes = now (start .args .bytes) in
     let kept = sym (ap bodyKept (tested .before .find .ensures)) ∙ sym (c .before .body-kept .ensures) ∙ not-true _ (c .if2 .taken) in
     let refused = loadRefusal-broken bytes (ended tested) kept in
-    (sym refused, (λ _. refl, (sym (loaded-refused (view (start .args .s)) bytes 11 refused (eqb-false 11 0 refl)), λ k. k)))
+    (sym refused, (λ _. refl, (sym (loaded-refused (view (now (start .args .s))) bytes 11 refused (eqb-false 11 0 refl)), λ k. k)))
 
-state-of-requires : tie.Need-state-of-requires
-state-of-requires c κs = sixty (c .before .before)
+read-body-requires : tie.Need-read-body-requires
+read-body-requires c κs = sixty (c .before .before .before)
 
 returns-3 : tie.Need-returns-3
 returns-3 c =
-    let tested = c .before .before .before in
+    let tested = c .before .before .before .before in
     let start = tested .before .before .before in
     let bytes = now (start .args .bytes) in
     let here = tested .before .find .ensures in
-    let kept = sym (ap bodyKept here) ∙ sym (c .before .before .body-kept .ensures) ∙ not-false _ (c .before .if2 .left) in
+    let kept = sym (ap bodyKept here) ∙ sym (c .before .before .before .body-kept .ensures) ∙ not-false _ (c .before .before .if2 .left) in
     let passed = loadRefusal-kept bytes (ended tested) kept in
-    let after = c .state-of .ensures ∙ ap machineOf here in
+    let after = c .read-body .ensures ∙ ap machineOf here in
     let bound : Below 256 bytes = λ k. tested .before .before .shared-slice-known .given k .fits in (
       sym passed,
-      (λ refused. absurd (refused passed), (after ∙ sym (loaded-accepted (view (start .args .s)) bytes passed), λ _. subst Kept (sym after) (found-kept bytes passed bound))),
+      (λ refused. absurd (refused passed), (after ∙ sym (loaded-accepted (view (now (start .args .s))) bytes passed), λ _. subst Kept (sym after) (found-kept bytes passed bound))),
     )
 
 pub load-spec : {M : Type 1} → statement M
 load-spec =
     tie.close
-    (tie.spec find-requires returns body-kept-requires returns-2 state-of-requires returns-3)
+    (tie.spec find-requires returns body-kept-requires returns-2 read-body-requires returns-3)

@@ -1,4 +1,5 @@
--- `body_kept` meets its contract: each of its tests is what a callee ensures. Assumes nothing.
+-- `image::rules::body_kept` meets its contract. Each of its tests is what a callee ensures.
+-- Assumes nothing.
 use borrow.Author.Needs.{needs}
 use Rattle.image.specs.Rules.{bodyKept}
 use Rattle.image.proofs.rules.body_kept.Statement.{statement}

@@ -1,4 +1,5 @@
--- `code_kept` meets its contract: the two parts that its callees test are the code and what comes after it. Assumes nothing.
+-- `image::rules::code_kept` meets its contract. The two parts that its callees test are the code and what comes after it.
+-- Assumes nothing.
 use mathlib.Core.Path.{sym, ap, ap₂, _∙_}
 use mathlib.Core.Bool.{_&&_}
 use native.Mathlib.Omega.{arith}

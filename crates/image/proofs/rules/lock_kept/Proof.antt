@@ -1,4 +1,5 @@
--- `lock_kept` meets its contract: each way through its test is a case of the definition. Assumes nothing.
+-- `image::rules::lock_kept` meets its contract. Each way through its test is a case of the definition.
+-- Assumes nothing.
 use mathlib.Core.Path.{sym}
 use borrow.Author.Tests.{eq-eqb, ne-eqb}
 use borrow.Author.Needs.{needs}

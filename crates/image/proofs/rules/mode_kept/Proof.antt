@@ -1,4 +1,5 @@
--- `mode_kept` meets its contract: it is the definition's own test. Assumes nothing.
+-- `image::rules::mode_kept` meets its contract. It is the definition's own test.
+-- Assumes nothing.
 use mathlib.Core.Path.{refl}
 use borrow.Author.Needs.{needs}
 use Rattle.image.proofs.rules.mode_kept.Statement.{statement}

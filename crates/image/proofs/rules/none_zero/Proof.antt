@@ -1,4 +1,4 @@
--- `none_zero` meets its contract. The loop's invariant: the bytes from i on pass the test exactly if all do; the measure is what is left of them.
+-- `image::rules::none_zero` meets its contract. The loop's invariant: the bytes from i on pass the test exactly if all do; the measure is what is left of them.
 -- Assumes nothing.
 use Prim.Native.Nat.{_≤_, _-_}
 use mathlib.Core.Path.{_≡_, refl, sym, ap, _∙_}

@@ -1,4 +1,5 @@
--- `sending_kept` meets its contract: each way through its tests is a case of the definition. Assumes nothing.
+-- `image::rules::sending_kept` meets its contract. Each way through its tests is a case of the definition.
+-- Assumes nothing.
 use mathlib.Core.Path.{sym, _∙_}
 use borrow.Author.Tests.{le-leb, lt-leb, eq-eqb, ne-eqb}
 use borrow.Author.Needs.{needs}

@@ -1,4 +1,4 @@
--- `save` meets its contract: under 68 bytes nothing was written, and else the trailer of the body that was written stands behind it.
+-- `image::save::save` meets its contract. Under 68 bytes nothing was written, and else the trailer of the body that was written stands behind it.
 -- Assumes nothing.
 use mathlib.Core.Path.{sym, _∙_}
 use native.Mathlib.Omega.{arith}
@@ -46,7 +46,7 @@ returns-2 c =
     let start = written .before .before .before .before in
     let room = le-ltb _ _ (written .before .before .if1 .left) in
     let made = written .write-body .ensures in
-    let all = image-written (view (start .args .s)) (now (start .args .out)) _ _ _ (made .1) (made .0) (sealed .trailer .ensures) (c .before .before .copy-in .ensures) in
+    let all = image-written (view (now (start .args .s))) (now (start .args .out)) _ _ _ (made .1) (made .0) (sealed .trailer .ensures) (c .before .before .copy-in .ensures) in
     (sym (cond-false _ _ _ room), all ∙ sym (cond-false _ _ _ room))
 
 pub save-spec : {M : Type 1} → statement M

@@ -1,5 +1,6 @@
--- `sum` meets its contract. The loop's invariant: what has been added up and the words from byte i on come to the sum, modulo 65,536; the
--- measure is what is left of the body. Assumes nothing.
+-- `image::sum::sum` meets its contract. The loop's invariant: what has been added up and the words from byte i on come to the sum, modulo 65,536; the
+-- measure is what is left of the body.
+-- Assumes nothing.
 use Prim.Native.Nat.{_≤_, _<_, _+_, _-_, _%_}
 use mathlib.Core.Path.{_≡_}
 use native.Mathlib.Omega.{arith}

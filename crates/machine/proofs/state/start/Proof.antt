@@ -1,4 +1,4 @@
--- `machine::state::start` meets its contract. The literal is the fresh machine, once `fresh` is opened.
+-- `machine::state::start` meets its contract. The bytes are those of the fresh machine, once `fresh` is opened.
 -- Assumes nothing.
 use borrow.Author.Needs.{needs}
 use mathlib.Core.Path.{refl}
@@ -6,12 +6,18 @@ use Rattle.machine.specs.State.{fresh}
 use Rattle.machine.proofs.state.start.Statement.{statement}
 use Rattle.machine.proofs.state.start.Tie as tie
 
-array-write-ram : tie.Need-array-write-ram
-array-write-ram c = search needs
+array-write-s : tie.Need-array-write-s
+array-write-s c = search needs
+
+array-write-s-2 : tie.Need-array-write-s-2
+array-write-s-2 c = search needs
+
+array-write-s-3 : tie.Need-array-write-s-3
+array-write-s-3 c = search needs
 
 returns : tie.Need-returns
 unfolding fresh
 returns c = refl
 
 pub start-spec : {M : Type 1} → statement M
-start-spec = tie.close (tie.spec array-write-ram returns)
+start-spec = tie.close (tie.spec array-write-s array-write-s-2 array-write-s-3 returns)

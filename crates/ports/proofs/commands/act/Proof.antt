@@ -1,7 +1,7 @@
 -- `ports::commands::act` meets its contract. Each arm is a case of the definition, which computes once the command is known.
 -- Assumes nothing.
 use borrow.Author.Needs.{needs}
-use mathlib.Core.Path.{_≡_, ap, sym, _∙_}
+use mathlib.Core.Path.{ap, sym, _∙_}
 use borrow.Author.Tests.{ne-eqb}
 use Rattle.machine.specs.Commands.{acts}
 use Rattle.ports.proofs.commands.act.Statement.{statement}
@@ -21,19 +21,19 @@ plain-command-requires c κs = search needs
 
 returns : tie.Need-returns
 unfolding acts
-returns c = c .ask-code .ensures ∙ simp (c .before .match .keys1)
+returns c = c .ask-code .ensures ∙ simp (c .before .before .match .keys1)
 
 returns-2 : tie.Need-returns-2
 unfolding acts
-returns-2 c = c .drop-code .ensures ∙ simp (c .before .match .keys2)
+returns-2 c = c .drop-code .ensures ∙ simp (c .before .before .match .keys2)
 
 returns-3 : tie.Need-returns-3
 unfolding acts
-returns-3 c = c .lock-up .ensures ∙ simp (c .before .match .keys3)
+returns-3 c = c .lock-up .ensures ∙ simp (c .before .before .match .keys3)
 
 returns-4 : tie.Need-returns-4
 unfolding acts
-returns-4 c = c .plain-command .ensures ∙ simp (ne-eqb _ _ (c .before .match .rest .0 .0 .1), ne-eqb _ _ (c .before .match .rest .0 .1), ne-eqb _ _ (c .before .match .rest .1))
+returns-4 c = c .plain-command .ensures ∙ simp (ne-eqb _ _ (c .before .before .match .rest .0 .0 .1), ne-eqb _ _ (c .before .before .match .rest .0 .1), ne-eqb _ _ (c .before .before .match .rest .1))
 
 pub act-spec : {M : Type 1} → statement M
 act-spec =

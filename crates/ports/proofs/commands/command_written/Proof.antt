@@ -1,17 +1,56 @@
--- `ports::commands::command_written` meets its contract. The two looked-up numbers are the definition's.
+-- `ports::commands::command_written` meets its contract. The store is the law's.
 -- Assumes nothing.
 use borrow.Author.Needs.{needs}
+use mathlib.Core.Path.{ap, sym, _∙_}
+use Rattle.machine.proofs.Laws.View.{set-command}
 use Rattle.ports.proofs.commands.command_written.Statement.{statement}
 use Rattle.ports.proofs.commands.command_written.Tie as tie
+
+sixty-requires : tie.Need-sixty-requires
+sixty-requires c κs = search needs
+
+element-copy-out-flags : tie.Need-element-copy-out-flags
+element-copy-out-flags c = search needs
+
+with-command-requires : tie.Need-with-command-requires
+with-command-requires c κs = search needs
+
+element-write-s : tie.Need-element-write-s
+element-write-s c = search needs
 
 pending-of-requires : tie.Need-pending-of-requires
 pending-of-requires c κs = search needs
 
+element-write-s-2 : tie.Need-element-write-s-2
+element-write-s-2 c = search needs
+
 cell-named-requires : tie.Need-cell-named-requires
 cell-named-requires c κs = search needs
 
+element-write-s-3 : tie.Need-element-write-s-3
+element-write-s-3 c = search needs
+
+element-write-s-4 : tie.Need-element-write-s-4
+element-write-s-4 c = search needs
+
+element-write-s-5 : tie.Need-element-write-s-5
+element-write-s-5 c = search needs
+
 returns : tie.Need-returns
-returns c = simp (c .cell-named .ensures, c .before .pending-of .ensures)
+returns c = set-command (c .before .before .before .before .before .before .args .s .now) (c .before .before .before .before .sixty .ensures) _ _ _ _ (c .before .before .with-command .ensures) ∙ simp (c .before .pending-of .ensures, c .cell-named .ensures)
 
 pub command-written-spec : {M : Type 1} → statement M
-command-written-spec = tie.close (tie.spec pending-of-requires cell-named-requires returns)
+command-written-spec =
+    tie.close
+    (tie.spec
+    sixty-requires
+    element-copy-out-flags
+    with-command-requires
+    element-write-s
+    pending-of-requires
+    element-write-s-2
+    cell-named-requires
+    element-write-s-3
+    element-write-s-4
+    element-write-s-5
+    returns)

@@ -1,18 +1,21 @@
 -- `ports::commands::has_code` meets its contract. The code is empty exactly where its length is 0.
 -- Assumes nothing.
-use lib.ListN.{length}
-use mathlib.Core.Path.{_≡_, ap, sym, _∙_}
 use borrow.Author.Needs.{needs}
+use mathlib.Core.Path.{ap, sym, _∙_}
 use mathlib.Core.Bool.{not}
-use Rattle.machine.proofs.Laws.View.{eqb-code}
+use lib.ListN.{getD, take, drop}
+use Rattle.machine.proofs.Laws.View.{eqb-code, code-long}
 use Rattle.ports.proofs.commands.has_code.Statement.{statement}
 use Rattle.ports.proofs.commands.has_code.Tie as tie
 
-long : (c : tie.Start) → length (c .args .s .lock .code) ≡ 16
-long c = search needs
+sixty-requires : tie.Need-sixty-requires
+sixty-requires c κs = search needs
+
+element-copy-out-result : tie.Need-element-copy-out-result
+element-copy-out-result c = search needs
 
 returns : tie.Need-returns
-returns c = ap not (eqb-code (c .before .before .args .s .lock .length) (c .before .before .args .s .lock .code) (long (c .before .before)))
+returns c = ap not (eqb-code (getD (c .before .before .before .args .s .now) 10 0) (take 16 (drop 12 (c .before .before .before .args .s .now))) (code-long (c .before .before .before .args .s .now) (c .before .sixty .ensures)))
 
 pub has-code-spec : {M : Type 1} → statement M
-has-code-spec = tie.close (tie.spec returns)
+has-code-spec = tie.close (tie.spec sixty-requires element-copy-out-result returns)

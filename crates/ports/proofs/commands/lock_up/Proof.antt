@@ -1,7 +1,7 @@
 -- `ports::commands::lock_up` meets its contract. The test is the definition's own, and the callees' rules follow one another.
 -- Assumes nothing.
 use borrow.Author.Needs.{needs}
-use mathlib.Core.Path.{_≡_, ap, sym, _∙_}
+use mathlib.Core.Path.{ap, sym, _∙_}
 use Rattle.machine.specs.State.{lift}
 use Rattle.machine.specs.Lines.{putCell}
 use Rattle.machine.specs.Commands.{lockedUp}
@@ -19,7 +19,7 @@ put-cell-requires c κs = search needs
 
 returns : tie.Need-returns
 unfolding lockedUp
-returns c = c .put-cell .ensures ∙ ap (lift (putCell _)) (c .before .close .ensures) ∙ simp (sym (c .before .before .before .has-code .ensures) ∙ c .before .before .if1 .taken)
+returns c = c .put-cell .ensures ∙ ap (lift (putCell _)) (c .before .before .close .ensures) ∙ simp (sym (c .before .before .before .before .before .has-code .ensures) ∙ c .before .before .before .before .if1 .taken)
 
 returns-2 : tie.Need-returns-2
 unfolding lockedUp

@@ -1,7 +1,7 @@
 -- `ports::commands::put_test_inputs` meets its contract. The callees' results are the definition's.
 -- Assumes nothing.
 use borrow.Author.Needs.{needs}
-use mathlib.Core.Path.{_≡_, ap, sym, _∙_}
+use mathlib.Core.Path.{ap, sym, _∙_}
 use Rattle.ports.proofs.commands.put_test_inputs.Statement.{statement}
 use Rattle.ports.proofs.commands.put_test_inputs.Tie as tie
 
@@ -18,7 +18,7 @@ put-requires : tie.Need-put-requires
 put-requires c κs = search needs
 
 returns : tie.Need-returns
-returns c = c .put .ensures ∙ simp (c .before .nibble .ensures .0, c .before .before .mouse-off .ensures, c .before .before .before .keyboard-off .ensures)
+returns c = c .put .ensures ∙ simp (c .before .before .nibble .ensures .0, c .before .before .before .mouse-off .ensures, c .before .before .before .before .before .keyboard-off .ensures)
 
 pub put-test-inputs-spec : {M : Type 1} → statement M
 put-test-inputs-spec =

@@ -1,7 +1,7 @@
 -- `ports::commands::self_test` meets its contract. The callees' rules follow one another, over the mode byte that `mode` reads.
 -- Assumes nothing.
 use borrow.Author.Needs.{needs}
-use mathlib.Core.Path.{_≡_, ap, sym, _∙_}
+use mathlib.Core.Path.{ap, sym, _∙_}
 use Rattle.machine.specs.State.{lift}
 use Rattle.machine.specs.Lines.{put}
 use Rattle.ports.proofs.commands.self_test.Statement.{statement}
@@ -22,23 +22,23 @@ mul-both c = search needs
 sub-both : tie.Need-sub-both
 sub-both c = search needs
 
-mul-with-mode : tie.Need-mul-with-mode
-mul-with-mode c = search needs
+mul-set-mode : tie.Need-mul-set-mode
+mul-set-mode c = search needs
 
-sub-with-mode : tie.Need-sub-with-mode
-sub-with-mode c = search needs
+sub-set-mode : tie.Need-sub-set-mode
+sub-set-mode c = search needs
 
-add-with-mode : tie.Need-add-with-mode
-add-with-mode c = search needs
+add-set-mode : tie.Need-add-set-mode
+add-set-mode c = search needs
 
-with-mode-requires : tie.Need-with-mode-requires
-with-mode-requires c κs = search needs
+set-mode-requires : tie.Need-set-mode-requires
+set-mode-requires c κs = search needs
 
 put-requires : tie.Need-put-requires
 put-requires c κs = search needs
 
 returns : tie.Need-returns
-returns c = c .put .ensures ∙ ap (lift (put _)) (c .before .with-mode .ensures) ∙ simp (c .before .before .mode .ensures)
+returns c = c .put .ensures ∙ ap (lift (put _)) (c .before .before .set-mode .ensures) ∙ simp (c .before .before .before .before .mode .ensures)
 
 pub self-test-spec : {M : Type 1} → statement M
 self-test-spec =
@@ -49,9 +49,9 @@ self-test-spec =
     sub-on
     mul-both
     sub-both
-    mul-with-mode
-    sub-with-mode
-    add-with-mode
-    with-mode-requires
+    mul-set-mode
+    sub-set-mode
+    add-set-mode
+    set-mode-requires
     put-requires
     returns)

@@ -1,26 +1,43 @@
--- `ports::data_port::append` meets its contract. The byte stored behind the code lengthens it by one.
+-- `ports::data_port::append` meets its contract. The store is the law's.
 -- Assumes nothing.
 use borrow.Author.Needs.{needs}
-use mathlib.Core.Path.{_≡_, ap, sym, _∙_}
-use lib.ListN.{length}
-use Rattle.machine.proofs.Laws.View.{code-append}
+use Rattle.machine.proofs.Laws.View.{set-appended}
 use Rattle.ports.proofs.data_port.append.Statement.{statement}
 use Rattle.ports.proofs.data_port.append.Tie as tie
+
+sixty-requires : tie.Need-sixty-requires
+sixty-requires c κs = search needs
+
+element-copy-out-n : tie.Need-element-copy-out-n
+element-copy-out-n c = search needs
 
 cast-at : tie.Need-cast-at
 cast-at c = search needs
 
-element-write-lock : tie.Need-element-write-lock
-element-write-lock c = search needs
+add-at : tie.Need-add-at
+add-at c = search needs
 
-add-lock : tie.Need-add-lock
-add-lock c = search needs
+element-write-s : tie.Need-element-write-s
+element-write-s c = search needs
+
+add-s : tie.Need-add-s
+add-s c = search needs
+
+element-write-s-2 : tie.Need-element-write-s-2
+element-write-s-2 c = search needs
 
 returns : tie.Need-returns
-returns c =
-    let lock = c .before .args .s .lock in
-    let long : length (lock .code) ≡ 16 = search needs in
-    simp (code-append (lock .length) (lock .code) long (c .before .pre) (c .before .args .v))
+returns c = set-appended (c .before .before .before .args .s .now) (c .before .sixty .ensures) _ (c .before .before .before .pre)
 
 pub append-spec : {M : Type 1} → statement M
-append-spec = tie.close (tie.spec cast-at element-write-lock add-lock returns)
+append-spec =
+    tie.close
+    (tie.spec
+    sixty-requires
+    element-copy-out-n
+    cast-at
+    add-at
+    element-write-s
+    add-s
+    element-write-s-2
+    returns)

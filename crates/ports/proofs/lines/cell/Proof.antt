@@ -1,24 +1,24 @@
--- `ports::lines::cell` meets its contract. An index within the RAM reads the cell; past its end the definition reads 0.
+-- `ports::lines::cell` meets its contract. The RAM's cells are the bytes from 28 on.
 -- Assumes nothing.
 use borrow.Author.Needs.{needs}
-use mathlib.Core.Path.{_≡_, sym}
-use lib.ListN.{length}
-use native.Mathlib.Omega.{arith}
-use Rattle.machine.specs.View.{public}
-use Rattle.machine.proofs.Laws.Lines.{cellOf-past}
+use Rattle.machine.proofs.Laws.Lines.{cellOf-at, cellOf-none}
 use Rattle.ports.proofs.lines.cell.Statement.{statement}
 use Rattle.ports.proofs.lines.cell.Tie as tie
 
-array-read-result : tie.Need-array-read-result
-array-read-result c = search needs
+sixty-requires : tie.Need-sixty-requires
+sixty-requires c κs = search needs
+
+add-at : tie.Need-add-at
+add-at c = search needs
+
+element-copy-out-result : tie.Need-element-copy-out-result
+element-copy-out-result c = search needs
 
 returns : tie.Need-returns
-returns c = search needs
+returns c = cellOf-at (c .before .before .before .before .args .s .now) _ (c .before .before .sixty .ensures) (c .before .if1 .taken)
 
 returns-2 : tie.Need-returns-2
-returns-2 c =
-    let long : length (c .before .args .s .ram) ≡ 32 = search needs in
-    sym (cellOf-past (public (c .before .args .s)) _ (omega arith))
+returns-2 c = cellOf-none (c .before .before .before .args .s .now) _ (c .before .sixty .ensures) (c .if1 .left)
 
 pub cell-spec : {M : Type 1} → statement M
-cell-spec = tie.close (tie.spec array-read-result returns returns-2)
+cell-spec = tie.close (tie.spec sixty-requires add-at element-copy-out-result returns returns-2)

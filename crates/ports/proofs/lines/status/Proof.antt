@@ -5,36 +5,40 @@ use Rattle.machine.specs.Lines.{status}
 use Rattle.ports.proofs.lines.status.Statement.{statement}
 use Rattle.ports.proofs.lines.status.Tie as tie
 
+output-full-requires : tie.Need-output-full-requires
+output-full-requires c κs = search needs
+
 input-full-requires : tie.Need-input-full-requires
 input-full-requires c κs = search needs
 
-system-requires : tie.Need-system-requires
-system-requires c κs = search needs
+element-copy-out-nibble : tie.Need-element-copy-out-nibble
+element-copy-out-nibble c = search needs
+
+element-copy-out-nibble-2 : tie.Need-element-copy-out-nibble-2
+element-copy-out-nibble-2 c = search needs
 
 nibble-requires : tie.Need-nibble-requires
 nibble-requires c κs = search needs
 
-high-nibble-requires : tie.Need-high-nibble-requires
-high-nibble-requires c κs = search needs
-
-mul-result : tie.Need-mul-result
-mul-result c = search needs
+high-status-requires : tie.Need-high-status-requires
+high-status-requires c κs = search needs
 
 add-result : tie.Need-add-result
 add-result c = search needs
 
 returns : tie.Need-returns
 unfolding status
-returns c = simp (c .high-nibble .ensures .0, c .before .nibble .ensures .0, c .before .before .system .ensures, c .before .before .before .input-full .ensures)
+returns c = simp (c .high-status .ensures .0, c .before .nibble .ensures .0, c .before .before .before .before .input-full .ensures, c .before .before .before .before .before .output-full .ensures)
 
 pub status-spec : {M : Type 1} → statement M
 status-spec =
     tie.close
     (tie.spec
+    output-full-requires
     input-full-requires
-    system-requires
+    element-copy-out-nibble
+    element-copy-out-nibble-2
     nibble-requires
-    high-nibble-requires
-    mul-result
+    high-status-requires
     add-result
     returns)

@@ -1,10 +1,8 @@
 -- `printing::page::print_list` meets its contract: a refused list prints its refusal; with room for both, the run leaves the answers in their
 -- buffer and the page is made of those; else nothing is written. Assumes nothing.
-use mathlib.Core.Path.{ap, sym, _∙_}
+use mathlib.Core.Path.{sym, _∙_}
 use native.Mathlib.Omega.{arith}
 use lib.ListN.{length}
-use Rattle.machine.specs.State.{Machine}
-use Rattle.machine.specs.Run.{events, filled}
 use Rattle.printing.proofs.Laws.Page.{refusedLength-false, listRefusal-accepted, room-few-answers, room-short-out, printed-none, printed-refused, printed-all}
 use borrow.Author.Needs.{needs}
 use Rattle.printing.proofs.page.print_list.Statement.{statement}
@@ -52,11 +50,8 @@ returns-3 c =
     let a = t .before .before .before .before .before .args in
     printed-none (a .list .now) (a .answers .now) (a .out .now) (room-short-out (a .list .now) (a .answers .now) (a .out .now) (sym (t .before .is-refused .ensures) ∙ t .if1 .left) (c .if3 .taken))
 
-start-requires : tie.Need-start-requires
-start-requires c κs = search needs
-
-run-requires : tie.Need-run-requires
-run-requires c κs = search needs
+run-fresh-requires : tie.Need-run-fresh-requires
+run-fresh-requires c κs = search needs
 
 print-answers-requires : tie.Need-print-answers-requires
 print-answers-requires c κs = search needs
@@ -71,13 +66,12 @@ returns-4 : tie.Need-returns-4
 returns-4 c =
     let p = c .before .before .print-answers in
     let r = c .before .before .before .before .before .before .before in
-    let u = r .before .before in
-    let t = u .before .before .before in
+    let t = r .before .before .before .before in
     let a = t .before .before .before .before .before .args in
     let fine = sym (t .before .is-refused .ensures) ∙ t .if1 .left in
-    let many = u .before .before .if2 .left in
-    let ran = r .run .ensures .buffer (listRefusal-accepted (a .list .now) (a .answers .now) fine many) ∙ ap (λ (m : Machine). filled m (events (a .list .now)) (a .answers .now)) (u .start .ensures) in
-    printed-all (a .list .now) (a .answers .now) (a .out .now) fine many (u .before .if3 .left) (p .result) (r .run .last .1 .1 .0) (p .last .1 .1 .0) ran (p .ensures .0) (p .ensures .1)
+    let many = r .before .before .before .if2 .left in
+    let ran = r .run-fresh .ensures .answered (listRefusal-accepted (a .list .now) (a .answers .now) fine many) in
+    printed-all (a .list .now) (a .answers .now) (a .out .now) fine many (r .before .before .if3 .left) (p .result) (r .run-fresh .last .1 .0) (p .last .1 .1 .0) ran (p .ensures .0) (p .ensures .1)
 
 pub print-list-spec : {M : Type 1} → statement M
 print-list-spec =
@@ -92,8 +86,7 @@ print-list-spec =
     mul-if3
     add-if3
     returns-3
-    start-requires
-    run-requires
+    run-fresh-requires
     print-answers-requires
     same-length-2
     same-length-3

@@ -1,0 +1,23 @@
+-- `controller::events::read_refusal` meets its contract. The checks stand in the definition's order, each test its own.
+-- Assumes nothing.
+use borrow.Author.Needs.{needs}
+use mathlib.Core.Path.{ap, sym, _∙_}
+use native.Mathlib.Omega.{arith}
+use borrow.Author.Tests.{lt-ltb, le-ltb}
+use Rattle.machine.specs.Events.{valueOf, refusal, stateRefusal}
+use Rattle.controller.proofs.events.read_refusal.Statement.{statement}
+use Rattle.controller.proofs.events.read_refusal.Tie as tie
+
+value-requires : tie.Need-value-requires
+value-requires c κs = search needs
+
+returns : tie.Need-returns
+unfolding refusal stateRefusal
+returns c = λ p. (simp (lt-ltb 0 (valueOf (c .before .before .args .low) (c .before .before .args .high)) (omega (arith, c .if1 .taken, c .before .value .ensures))), simp (lt-ltb 0 (valueOf (c .before .before .args .low) (c .before .before .args .high)) (omega (arith, c .if1 .taken, c .before .value .ensures))))
+
+returns-2 : tie.Need-returns-2
+unfolding refusal stateRefusal
+returns-2 c = λ p. (simp (le-ltb 0 (valueOf (c .before .before .args .low) (c .before .before .args .high)) (omega (arith, c .if1 .left, c .before .value .ensures))), simp (le-ltb 0 (valueOf (c .before .before .args .low) (c .before .before .args .high)) (omega (arith, c .if1 .left, c .before .value .ensures))))
+
+pub read-refusal-spec : {M : Type 1} → statement M
+read-refusal-spec = tie.close (tie.spec value-requires returns returns-2)

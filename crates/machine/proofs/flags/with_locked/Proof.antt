@@ -1,0 +1,24 @@
+-- `machine::flags::with_locked` meets its contract. The law was tested at each byte.
+-- Assumes nothing.
+use borrow.Author.Needs.{needs}
+use Rattle.machine.proofs.Laws.Flags.{lock-flags}
+use Rattle.machine.proofs.flags.with_locked.Statement.{statement}
+use Rattle.machine.proofs.flags.with_locked.Tie as tie
+
+mul-result : tie.Need-mul-result
+mul-result c = search needs
+
+add-result : tie.Need-add-result
+add-result c = search needs
+
+weight-requires : tie.Need-weight-requires
+weight-requires c κs = search needs
+
+add-result-2 : tie.Need-add-result-2
+add-result-2 c = search needs
+
+returns : tie.Need-returns
+returns c = rw (c .weight .ensures .0) (lock-flags (c .before .args .on) (c .before .args .f) (search needs))
+
+pub with-locked-spec : {M : Type 1} → statement M
+with-locked-spec = tie.close (tie.spec mul-result add-result weight-requires add-result-2 returns)

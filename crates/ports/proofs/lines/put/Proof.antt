@@ -1,0 +1,35 @@
+-- `ports::lines::put` meets its contract. The store is the law's.
+-- Assumes nothing.
+use borrow.Author.Needs.{needs}
+use Rattle.machine.proofs.Laws.View.{set-output}
+use Rattle.ports.proofs.lines.put.Statement.{statement}
+use Rattle.ports.proofs.lines.put.Tie as tie
+
+sixty-requires : tie.Need-sixty-requires
+sixty-requires c κs = search needs
+
+element-copy-out-flags : tie.Need-element-copy-out-flags
+element-copy-out-flags c = search needs
+
+with-output-requires : tie.Need-with-output-requires
+with-output-requires c κs = search needs
+
+element-write-s : tie.Need-element-write-s
+element-write-s c = search needs
+
+element-write-s-2 : tie.Need-element-write-s-2
+element-write-s-2 c = search needs
+
+returns : tie.Need-returns
+returns c = set-output (c .before .before .before .before .args .s .now) (c .before .before .sixty .ensures) _ _ _ (c .with-output .ensures)
+
+pub put-spec : {M : Type 1} → statement M
+put-spec =
+    tie.close
+    (tie.spec
+    sixty-requires
+    element-copy-out-flags
+    with-output-requires
+    element-write-s
+    element-write-s-2
+    returns)
