@@ -1,10 +1,10 @@
 // One event: the checks that refuse it, what it does, and its nine answer bytes. The kind is looked at once, and each kind makes its own
 // checks.
-use crate::frames::keyboard_frame;
-use crate::frames::mouse_frame;
-use crate::frames::set_pins;
-use crate::frames::taken;
-use crate::frames::timed_out;
+use devices::frames::keyboard_frame;
+use devices::frames::mouse_frame;
+use devices::frames::set_pins;
+use devices::frames::taken;
+use devices::frames::timed_out;
 use machine::flags::with_output;
 use machine::state::FLAGS;
 use machine::state::OUTPUT;

@@ -1,4 +1,3 @@
-// The controller: what arrives from the devices, one event, and a list of events.
+// The controller: one event, and a list of events.
 pub mod events;
-pub mod frames;
 pub mod run;

@@ -76,15 +76,16 @@ flagsIn byte =
 -- The machine of a body: the table read the other way.
 unfoldable pub machineOf : List ℕ → Machine
 machineOf b =
+    let flags = flagsIn (at b 1) in
     record {
       plain = record {
-        output = record { byte = at b 0; full = has (at b 1) 0; mouse = has (at b 1) 1 };
-        errors = record { timeout = has (at b 1) 3; parity = has (at b 1) 4 };
-        host = record { command = has (at b 1) 2; pending = at b 4; cell = at b 5; overlay = eqb (at b 6) 1; nibble = at b 7 };
+        output = record { byte = at b 0; full = flags .full; mouse = flags .mouse };
+        errors = record { timeout = flags .timeout; parity = flags .parity };
+        host = record { command = flags .command; pending = at b 4; cell = at b 5; overlay = eqb (at b 6) 1; nibble = at b 7 };
         ports = record { pins = at b 2; p20 = has (at b 3) 0; p21 = has (at b 3) 1 };
         sending = record { to = at b 8; byte = at b 9 };
-        breaks = has (at b 1) 5;
-        locked = has (at b 1) 6;
+        breaks = flags .breaks;
+        locked = flags .locked;
         ram = take 32 (drop 28 b);
       };
       secret = record { code = take (at b 10) (take 16 (drop 12 b)); position = at b 11 };

@@ -5,7 +5,6 @@ use machine::state::CELL;
 use machine::state::CODE;
 use machine::state::FLAGS;
 use machine::state::LATCHES;
-use machine::state::LENGTH;
 use machine::state::NIBBLE;
 use machine::state::OUTPUT;
 use machine::state::OVERLAY;
@@ -16,7 +15,7 @@ use machine::state::RAM;
 use machine::state::SENT;
 use machine::state::SENT_TO;
 use machine::state::State;
-use machine::state::sixty;
+use machine::state::code_length;
 use machine::weights::nibble;
 ghost use mathlib.Core.Path.{_≡_};
 ghost use Prim.Native.Nat.{_≤_};
@@ -33,9 +32,6 @@ pub const TRAILER: usize = 8;
 pub const IMAGE: usize = 68;
 
 pub const EDITION: u8 = 1;
-
-// The most bytes of a lock code.
-const LONGEST: u8 = 16;
 
 // Byte 1.
 fn flags(s: &State) -> u8
@@ -72,15 +68,6 @@ fn latches(s: &State) -> u8
 {
     let held = s[LATCHES];
     nibble(held / 1 % 2 == 1, held / 2 % 2 == 1, false, false)
-}
-
-// Byte 10.
-fn code_length(s: &State) -> u8
-    ensures { λ r. ⌜ (r ≡ length (view (now (s .entry)) .secret .code)) × (r ≤ 16) ⌝ }
-{
-    sixty(*s);
-    let n = s[LENGTH];
-    if n < LONGEST { n } else { LONGEST }
 }
 
 // Bytes 0-11.

@@ -1,5 +1,6 @@
 // The controller's state: sixty bytes, which a run changes in place. They stand in the order of a saved image's body.
 ghost use mathlib.Core.Path.{_≡_};
+ghost use Prim.Native.Nat.{_≤_};
 ghost use lib.ListN.{length};
 ghost use Rattle.machine.specs.State.{fresh};
 ghost use Rattle.machine.specs.View.{view};
@@ -47,6 +48,15 @@ pub const MODE: usize = 28;
 pub fn sixty(s: State)
     ensures { λ _. ⌜ length s ≡ 60 ⌝ }
 {}
+
+// How long the lock code is.
+pub fn code_length(s: &State) -> u8
+    ensures { λ r. ⌜ (r ≡ length (view (now (s .entry)) .secret .code)) × (r ≤ 16) ⌝ }
+{
+    sixty(*s);
+    let n = s[LENGTH];
+    if 16 < n { 16 } else { n }
+}
 
 // A controller after power-on.
 pub fn start() -> State

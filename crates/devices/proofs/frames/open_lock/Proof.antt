@@ -1,0 +1,35 @@
+-- `devices::frames::open_lock` meets its contract. The store is the law's.
+-- Assumes nothing.
+use borrow.Author.Needs.{needs}
+use Rattle.machine.proofs.Laws.View.{set-closed}
+use Rattle.devices.proofs.frames.open_lock.Statement.{statement}
+use Rattle.devices.proofs.frames.open_lock.Tie as tie
+
+sixty-requires : tie.Need-sixty-requires
+sixty-requires c κs = search needs
+
+element-copy-out-flags : tie.Need-element-copy-out-flags
+element-copy-out-flags c = search needs
+
+with-locked-requires : tie.Need-with-locked-requires
+with-locked-requires c κs = search needs
+
+element-write-s : tie.Need-element-write-s
+element-write-s c = search needs
+
+element-write-s-2 : tie.Need-element-write-s-2
+element-write-s-2 c = search needs
+
+returns : tie.Need-returns
+returns c = set-closed (c .before .before .before .before .args .s .now) (c .before .before .sixty .ensures) _ _ (c .with-locked .ensures)
+
+pub open-lock-spec : {M : Type 1} → statement M
+open-lock-spec =
+    tie.close
+    (tie.spec
+    sixty-requires
+    element-copy-out-flags
+    with-locked-requires
+    element-write-s
+    element-write-s-2
+    returns)

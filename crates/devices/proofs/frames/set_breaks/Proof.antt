@@ -1,0 +1,26 @@
+-- `devices::frames::set_breaks` meets its contract. The store is the law's.
+-- Assumes nothing.
+use borrow.Author.Needs.{needs}
+use Rattle.machine.proofs.Laws.View.{set-flags}
+use Rattle.devices.proofs.frames.set_breaks.Statement.{statement}
+use Rattle.devices.proofs.frames.set_breaks.Tie as tie
+
+sixty-requires : tie.Need-sixty-requires
+sixty-requires c κs = search needs
+
+element-copy-out-flags : tie.Need-element-copy-out-flags
+element-copy-out-flags c = search needs
+
+with-breaks-requires : tie.Need-with-breaks-requires
+with-breaks-requires c κs = search needs
+
+element-write-s : tie.Need-element-write-s
+element-write-s c = search needs
+
+returns : tie.Need-returns
+returns c = set-flags (c .before .before .before .before .args .s .now) (c .before .before .sixty .ensures) _ _ (c .with-breaks .ensures)
+
+pub set-breaks-spec : {M : Type 1} → statement M
+set-breaks-spec =
+    tie.close
+    (tie.spec sixty-requires element-copy-out-flags with-breaks-requires element-write-s returns)

@@ -1,0 +1,20 @@
+-- `devices::frames::sound_mouse` meets its contract. The callees' rules follow one another as in the definition.
+-- Assumes nothing.
+use borrow.Author.Needs.{needs}
+use mathlib.Core.Path.{ap, sym, _∙_}
+use Rattle.machine.specs.State.{lift}
+use Rattle.machine.specs.Frames.{mousePut}
+use Rattle.devices.proofs.frames.sound_mouse.Statement.{statement}
+use Rattle.devices.proofs.frames.sound_mouse.Tie as tie
+
+set-errors-requires : tie.Need-set-errors-requires
+set-errors-requires c κs = search needs
+
+put-from-mouse-requires : tie.Need-put-from-mouse-requires
+put-from-mouse-requires c κs = search needs
+
+returns : tie.Need-returns
+returns c = c .put-from-mouse .ensures ∙ ap (lift (mousePut _)) (c .before .before .set-errors .ensures)
+
+pub sound-mouse-spec : {M : Type 1} → statement M
+sound-mouse-spec = tie.close (tie.spec set-errors-requires put-from-mouse-requires returns)
