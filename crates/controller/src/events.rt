@@ -11,7 +11,7 @@ use machine::state::OUTPUT;
 use machine::state::SENT;
 use machine::state::SENT_TO;
 use machine::state::State;
-use machine::state::sixty;
+use machine::state::sized;
 use machine::weights::weight;
 use ports::commands::pulse_of;
 use ports::commands::write_command;
@@ -112,7 +112,7 @@ fn tell(answers: &mut [u8], number: u8, read: u8, old: u8, pulsed: u8)
 fn empty(s: &mut State)
     ensures { λ _. ⌜ view (now (s .exit)) ≡ lift events.emptied (view (now (s .entry))) ⌝ }
 {
-    sixty(*s);
+    sized(*s);
     let flags = s[FLAGS];
     s[FLAGS] = with_output(flags, false, false);
 }

@@ -9,7 +9,7 @@ use machine::state::POSITION;
 use machine::state::SENT_TO;
 use machine::state::State;
 use machine::state::code_length;
-use machine::state::sixty;
+use machine::state::sized;
 use ports::data_port::send;
 use ports::lines::cell;
 use ports::lines::inhibited;
@@ -39,7 +39,7 @@ const ERROR: u8 = 0xFF;
 fn set_errors(s: &mut State, timeout: bool, parity: bool)
     ensures { λ _. ⌜ view (now (s .exit)) ≡ lift (frame.judged timeout parity) (view (now (s .entry))) ⌝ }
 {
-    sixty(*s);
+    sized(*s);
     let flags = s[FLAGS];
     s[FLAGS] = with_errors(flags, timeout, parity);
 }
@@ -47,7 +47,7 @@ fn set_errors(s: &mut State, timeout: bool, parity: bool)
 fn set_breaks(s: &mut State, breaks: bool)
     ensures { λ _. ⌜ view (now (s .exit)) ≡ lift (frame.breaking breaks) (view (now (s .entry))) ⌝ }
 {
-    sixty(*s);
+    sized(*s);
     let flags = s[FLAGS];
     s[FLAGS] = with_breaks(flags, breaks);
 }
@@ -55,7 +55,7 @@ fn set_breaks(s: &mut State, breaks: bool)
 fn set_position(s: &mut State, k: u8)
     ensures { λ _. ⌜ view (now (s .exit)) ≡ frame.positioned k (view (now (s .entry))) ⌝ }
 {
-    sixty(*s);
+    sized(*s);
     s[POSITION] = k;
 }
 
@@ -89,7 +89,7 @@ fn ignored(s: &State, x: u8) -> bool
 fn matches(s: &State, x: u8) -> bool
     ensures { λ r. ⌜ (r ≡ frame.matches x (view (now (s .entry)))) × (r ≡ true → getD (now (s .entry)) 11 0 < 16) ⌝ }
 {
-    sixty(*s);
+    sized(*s);
     let n = code_length(s);
     let k = s[POSITION];
     if k < n {
@@ -112,7 +112,7 @@ fn completes(s: &State) -> bool
 fn open_lock(s: &mut State)
     ensures { λ _. ⌜ view (now (s .exit)) ≡ frame.opened (view (now (s .entry))) ⌝ }
 {
-    sixty(*s);
+    sized(*s);
     let flags = s[FLAGS];
     s[FLAGS] = with_locked(flags, false);
     s[POSITION] = 0;
@@ -269,6 +269,6 @@ pub fn timed_out(s: &mut State)
 pub fn set_pins(s: &mut State, pins: u8)
     ensures { λ _. ⌜ view (now (s .exit)) ≡ lift (frame.pinned pins) (view (now (s .entry))) ⌝ }
 {
-    sixty(*s);
+    sized(*s);
     s[PINS] = pins;
 }

@@ -45,7 +45,7 @@ pub const RAM: usize = 28;
 pub const MODE: usize = 28;
 
 // The length that the type has, told to the proofs: they do not learn it of an array behind a reference. It compiles to nothing.
-pub fn sixty(s: State)
+pub fn sized(s: State)
     ensures { λ _. ⌜ length s ≡ 60 ⌝ }
 {}
 
@@ -53,7 +53,7 @@ pub fn sixty(s: State)
 pub fn code_length(s: &State) -> u8
     ensures { λ r. ⌜ (r ≡ length (view (now (s .entry)) .secret .code)) × (r ≤ 16) ⌝ }
 {
-    sixty(*s);
+    sized(*s);
     let n = s[LENGTH];
     if 16 < n { 16 } else { n }
 }

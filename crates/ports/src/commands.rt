@@ -23,7 +23,7 @@ use machine::state::PENDING;
 use machine::state::PINS;
 use machine::state::POSITION;
 use machine::state::State;
-use machine::state::sixty;
+use machine::state::sized;
 use machine::weights::nibble;
 ghost use mathlib.Core.Path.{_≡_};
 ghost use Prim.Native.Nat.{_/_, _%_};
@@ -325,7 +325,7 @@ fn cell_named(c: u8) -> u8
 fn command_written(s: &mut State, c: u8)
     ensures { λ _. ⌜ view (now (s .exit)) ≡ lift (command.commandWritten c) (view (now (s .entry))) ⌝ }
 {
-    sixty(*s);
+    sized(*s);
     let flags = s[FLAGS];
     s[FLAGS] = with_command(flags, true);
     s[PENDING] = pending_of(c);
@@ -347,7 +347,7 @@ fn cut_load(s: &mut State)
 fn overlay(s: &mut State, n: u8)
     ensures { λ _. ⌜ view (now (s .exit)) ≡ lift (command.overlaid n) (view (now (s .entry))) ⌝ }
 {
-    sixty(*s);
+    sized(*s);
     s[OVERLAY] = 1;
     s[NIBBLE] = n;
 }
@@ -433,7 +433,7 @@ fn plain_command(s: &mut State, c: u8)
 fn has_code(s: &State) -> bool
     ensures { λ r. ⌜ r ≡ command.hasCode (view (now (s .entry))) ⌝ }
 {
-    sixty(*s);
+    sized(*s);
     s[LENGTH] != 0
 }
 
@@ -452,7 +452,7 @@ fn ask_code(s: &mut State)
 fn close(s: &mut State)
     ensures { λ _. ⌜ view (now (s .exit)) ≡ command.closed (view (now (s .entry))) ⌝ }
 {
-    sixty(*s);
+    sized(*s);
     let flags = s[FLAGS];
     s[FLAGS] = with_locked(flags, true);
     s[POSITION] = 0;

@@ -14,7 +14,7 @@ use machine::state::RAM;
 use machine::state::SENT;
 use machine::state::SENT_TO;
 use machine::state::State;
-use machine::state::sixty;
+use machine::state::sized;
 ghost use mathlib.Core.Path.{_≡_};
 ghost use Prim.Native.Nat.{_<_};
 ghost use lib.ListN.{getD};
@@ -29,7 +29,7 @@ const CODE_MOST: u8 = 16;
 pub fn settle(s: &mut State)
     ensures { λ _. ⌜ view (now (s .exit)) ≡ lift port.settled (view (now (s .entry))) ⌝ }
 {
-    sixty(*s);
+    sized(*s);
     s[PENDING] = 0;
     s[CELL] = 0;
 }
@@ -38,7 +38,7 @@ pub fn settle(s: &mut State)
 fn data_written(s: &mut State)
     ensures { λ _. ⌜ view (now (s .exit)) ≡ lift port.dataWritten (view (now (s .entry))) ⌝ }
 {
-    sixty(*s);
+    sized(*s);
     let flags = s[FLAGS];
     s[FLAGS] = with_command(flags, false);
 }
@@ -47,7 +47,7 @@ fn data_written(s: &mut State)
 pub fn send(s: &mut State, to: u8, byte: u8)
     ensures { λ _. ⌜ view (now (s .exit)) ≡ lift (port.send to byte) (view (now (s .entry))) ⌝ }
 {
-    sixty(*s);
+    sized(*s);
     s[SENT_TO] = to;
     s[SENT] = byte;
 }
@@ -63,14 +63,14 @@ fn send_keyboard(s: &mut State, byte: u8)
 fn latch(s: &mut State, v: u8)
     ensures { λ _. ⌜ view (now (s .exit)) ≡ lift (port.latched v) (view (now (s .entry))) ⌝ }
 {
-    sixty(*s);
+    sized(*s);
     s[LATCHES] = v;
 }
 
 fn write_cell(s: &mut State, v: u8)
     ensures { λ _. ⌜ view (now (s .exit)) ≡ lift (port.cellWritten v) (view (now (s .entry))) ⌝ }
 {
-    sixty(*s);
+    sized(*s);
     let k = s[CELL];
     if k < 32 {
         let at = RAM + (k as usize);
@@ -98,7 +98,7 @@ fn plain_data(s: &mut State, v: u8)
 pub fn drop_code(s: &mut State)
     ensures { λ _. ⌜ view (now (s .exit)) ≡ port.dropped (view (now (s .entry))) ⌝ }
 {
-    sixty(*s);
+    sized(*s);
     s[LENGTH] = 0;
 }
 
@@ -107,7 +107,7 @@ fn append(s: &mut State, v: u8)
     requires { ⌜ getD (now s) 10 0 < 16 ⌝ }
     ensures { λ _. ⌜ view (now (s .exit)) ≡ port.appended v (view (now (s .entry))) ⌝ }
 {
-    sixty(*s);
+    sized(*s);
     let n = s[LENGTH];
     let at = CODE + (n as usize);
     s[at] = v;
@@ -118,7 +118,7 @@ fn append(s: &mut State, v: u8)
 fn load_byte(s: &mut State, v: u8)
     ensures { λ _. ⌜ view (now (s .exit)) ≡ port.loadByte v (view (now (s .entry))) ⌝ }
 {
-    sixty(*s);
+    sized(*s);
     if v == 0 {
         settle(s);
         return;

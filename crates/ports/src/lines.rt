@@ -10,7 +10,7 @@ use machine::state::PINS;
 use machine::state::RAM;
 use machine::state::SENT_TO;
 use machine::state::State;
-use machine::state::sixty;
+use machine::state::sized;
 use machine::weights::nibble;
 use machine::weights::upper;
 use machine::weights::weight;
@@ -25,7 +25,7 @@ ghost use Rattle.machine.specs.View.{public, view};
 pub fn cell(s: &State, k: u8) -> u8
     ensures { λ r. ⌜ r ≡ lines.cellOf (public (now (s .entry))) k ⌝ }
 {
-    sixty(*s);
+    sized(*s);
     if k < 32 {
         let at = RAM + (k as usize);
         s[at]
@@ -44,7 +44,7 @@ pub fn mode(s: &State) -> u8
 pub fn set_mode(s: &mut State, mode: u8)
     ensures { λ _. ⌜ view (now (s .exit)) ≡ lift (lines.withMode mode) (view (now (s .entry))) ⌝ }
 {
-    sixty(*s);
+    sized(*s);
     s[MODE] = mode;
 }
 
@@ -160,7 +160,7 @@ pub fn output_port(s: &State) -> u8
 pub fn put(s: &mut State, byte: u8)
     ensures { λ _. ⌜ view (now (s .exit)) ≡ lift (lines.put byte) (view (now (s .entry))) ⌝ }
 {
-    sixty(*s);
+    sized(*s);
     let flags = s[FLAGS];
     s[FLAGS] = with_output(flags, true, false);
     s[OUTPUT] = byte;
@@ -170,7 +170,7 @@ pub fn put(s: &mut State, byte: u8)
 pub fn put_mouse(s: &mut State, byte: u8)
     ensures { λ _. ⌜ view (now (s .exit)) ≡ lift (lines.putMouse byte) (view (now (s .entry))) ⌝ }
 {
-    sixty(*s);
+    sized(*s);
     let flags = s[FLAGS];
     s[FLAGS] = with_output(flags, true, true);
     s[OUTPUT] = byte;
@@ -190,7 +190,7 @@ pub fn put_cell(s: &mut State, k: u8)
 pub fn disable_keyboard(s: &mut State)
     ensures { λ _. ⌜ view (now (s .exit)) ≡ lift lines.keyboardDisabled (view (now (s .entry))) ⌝ }
 {
-    sixty(*s);
+    sized(*s);
     let n = mode(s);
     s[MODE] = n - n / 16 % 2 * 16 + 16;
 }
@@ -198,7 +198,7 @@ pub fn disable_keyboard(s: &mut State)
 pub fn enable_keyboard(s: &mut State)
     ensures { λ _. ⌜ view (now (s .exit)) ≡ lift lines.keyboardEnabled (view (now (s .entry))) ⌝ }
 {
-    sixty(*s);
+    sized(*s);
     let n = mode(s);
     s[MODE] = n - n / 16 % 2 * 16;
 }
@@ -206,7 +206,7 @@ pub fn enable_keyboard(s: &mut State)
 pub fn disable_mouse(s: &mut State)
     ensures { λ _. ⌜ view (now (s .exit)) ≡ lift lines.mouseDisabled (view (now (s .entry))) ⌝ }
 {
-    sixty(*s);
+    sized(*s);
     let n = mode(s);
     s[MODE] = n - n / 32 % 2 * 32 + 32;
 }
@@ -214,7 +214,7 @@ pub fn disable_mouse(s: &mut State)
 pub fn enable_mouse(s: &mut State)
     ensures { λ _. ⌜ view (now (s .exit)) ≡ lift lines.mouseEnabled (view (now (s .entry))) ⌝ }
 {
-    sixty(*s);
+    sized(*s);
     let n = mode(s);
     s[MODE] = n - n / 32 % 2 * 32;
 }

@@ -10,8 +10,8 @@ use Rattle.machine.proofs.Laws.View.{code-at, code-past, code-byte, code-long}
 use Rattle.devices.proofs.frames.matches.Statement.{statement}
 use Rattle.devices.proofs.frames.matches.Tie as tie
 
-sixty-requires : tie.Need-sixty-requires
-sixty-requires c κs = search needs
+sized-requires : tie.Need-sized-requires
+sized-requires c κs = search needs
 
 code-length-requires : tie.Need-code-length-requires
 code-length-requires c κs = search needs
@@ -30,19 +30,19 @@ element-copy-out-result c = search needs
 
 returns : tie.Need-returns
 returns c = (
-  ap (eqb _) (code-byte (c .before .before .before .before .before .before .args .s .now) (c .before .before .before .before .sixty .ensures) (getD (c .before .before .before .before .before .before .args .s .now) 11 0) (omega (arith, c .before .before .before .code-length .ensures .1, c .before .if1 .taken)))
-      ∙ code-at (getD (c .before .before .before .before .before .before .args .s .now) 10 0) (take 16 (drop 12 (c .before .before .before .before .before .before .args .s .now))) (code-long (c .before .before .before .before .before .before .args .s .now) (c .before .before .before .before .sixty .ensures)) (getD (c .before .before .before .before .before .before .args .s .now) 11 0) _ _ (c .before .before .before .code-length .ensures .0) (c .before .if1 .taken),
+  ap (eqb _) (code-byte (c .before .before .before .before .before .before .args .s .now) (c .before .before .before .before .sized .ensures) (getD (c .before .before .before .before .before .before .args .s .now) 11 0) (omega (arith, c .before .before .before .code-length .ensures .1, c .before .if1 .taken)))
+      ∙ code-at (getD (c .before .before .before .before .before .before .args .s .now) 10 0) (take 16 (drop 12 (c .before .before .before .before .before .before .args .s .now))) (code-long (c .before .before .before .before .before .before .args .s .now) (c .before .before .before .before .sized .ensures)) (getD (c .before .before .before .before .before .before .args .s .now) 11 0) _ _ (c .before .before .before .code-length .ensures .0) (c .before .if1 .taken),
   λ _. omega (arith, c .before .before .before .code-length .ensures .1, c .before .if1 .taken),
 )
 
 returns-2 : tie.Need-returns-2
-returns-2 c = (code-past (getD (c .before .before .before .before .before .args .s .now) 10 0) (take 16 (drop 12 (c .before .before .before .before .before .args .s .now))) (code-long (c .before .before .before .before .before .args .s .now) (c .before .before .before .sixty .ensures)) (getD (c .before .before .before .before .before .args .s .now) 11 0) (c .before .before .before .before .before .args .x) _ (c .before .before .code-length .ensures .0) (c .if1 .left), λ h. absurd (false≢true h))
+returns-2 c = (code-past (getD (c .before .before .before .before .before .args .s .now) 10 0) (take 16 (drop 12 (c .before .before .before .before .before .args .s .now))) (code-long (c .before .before .before .before .before .args .s .now) (c .before .before .before .sized .ensures)) (getD (c .before .before .before .before .before .args .s .now) 11 0) (c .before .before .before .before .before .args .x) _ (c .before .before .code-length .ensures .0) (c .if1 .left), λ h. absurd (false≢true h))
 
 pub matches-spec : {M : Type 1} → statement M
 matches-spec =
     tie.close
     (tie.spec
-    sixty-requires
+    sized-requires
     code-length-requires
     element-copy-out-k
     cast-at

@@ -5,8 +5,8 @@ use Rattle.machine.proofs.Laws.View.{set-closed}
 use Rattle.devices.proofs.frames.open_lock.Statement.{statement}
 use Rattle.devices.proofs.frames.open_lock.Tie as tie
 
-sixty-requires : tie.Need-sixty-requires
-sixty-requires c κs = search needs
+sized-requires : tie.Need-sized-requires
+sized-requires c κs = search needs
 
 element-copy-out-flags : tie.Need-element-copy-out-flags
 element-copy-out-flags c = search needs
@@ -21,13 +21,13 @@ element-write-s-2 : tie.Need-element-write-s-2
 element-write-s-2 c = search needs
 
 returns : tie.Need-returns
-returns c = set-closed (c .before .before .before .before .args .s .now) (c .before .before .sixty .ensures) _ _ (c .with-locked .ensures)
+returns c = set-closed (c .before .before .before .before .args .s .now) (c .before .before .sized .ensures) _ _ (c .with-locked .ensures)
 
 pub open-lock-spec : {M : Type 1} → statement M
 open-lock-spec =
     tie.close
     (tie.spec
-    sixty-requires
+    sized-requires
     element-copy-out-flags
     with-locked-requires
     element-write-s

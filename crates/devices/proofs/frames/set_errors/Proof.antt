@@ -5,8 +5,8 @@ use Rattle.machine.proofs.Laws.View.{set-flags}
 use Rattle.devices.proofs.frames.set_errors.Statement.{statement}
 use Rattle.devices.proofs.frames.set_errors.Tie as tie
 
-sixty-requires : tie.Need-sixty-requires
-sixty-requires c κs = search needs
+sized-requires : tie.Need-sized-requires
+sized-requires c κs = search needs
 
 element-copy-out-flags : tie.Need-element-copy-out-flags
 element-copy-out-flags c = search needs
@@ -18,9 +18,9 @@ element-write-s : tie.Need-element-write-s
 element-write-s c = search needs
 
 returns : tie.Need-returns
-returns c = set-flags (c .before .before .before .before .args .s .now) (c .before .before .sixty .ensures) _ _ (c .with-errors .ensures)
+returns c = set-flags (c .before .before .before .before .args .s .now) (c .before .before .sized .ensures) _ _ (c .with-errors .ensures)
 
 pub set-errors-spec : {M : Type 1} → statement M
 set-errors-spec =
     tie.close
-    (tie.spec sixty-requires element-copy-out-flags with-errors-requires element-write-s returns)
+    (tie.spec sized-requires element-copy-out-flags with-errors-requires element-write-s returns)

@@ -6,8 +6,8 @@ use Rattle.machine.proofs.Laws.View.{set-command}
 use Rattle.ports.proofs.commands.command_written.Statement.{statement}
 use Rattle.ports.proofs.commands.command_written.Tie as tie
 
-sixty-requires : tie.Need-sixty-requires
-sixty-requires c κs = search needs
+sized-requires : tie.Need-sized-requires
+sized-requires c κs = search needs
 
 element-copy-out-flags : tie.Need-element-copy-out-flags
 element-copy-out-flags c = search needs
@@ -37,13 +37,13 @@ element-write-s-5 : tie.Need-element-write-s-5
 element-write-s-5 c = search needs
 
 returns : tie.Need-returns
-returns c = set-command (c .before .before .before .before .before .before .args .s .now) (c .before .before .before .before .sixty .ensures) _ _ _ _ (c .before .before .with-command .ensures) ∙ simp (c .before .pending-of .ensures, c .cell-named .ensures)
+returns c = set-command (c .before .before .before .before .before .before .args .s .now) (c .before .before .before .before .sized .ensures) _ _ _ _ (c .before .before .with-command .ensures) ∙ simp (c .before .pending-of .ensures, c .cell-named .ensures)
 
 pub command-written-spec : {M : Type 1} → statement M
 command-written-spec =
     tie.close
     (tie.spec
-    sixty-requires
+    sized-requires
     element-copy-out-flags
     with-command-requires
     element-write-s

@@ -8,14 +8,14 @@ use Rattle.machine.proofs.Laws.View.{eqb-code, code-long}
 use Rattle.ports.proofs.commands.has_code.Statement.{statement}
 use Rattle.ports.proofs.commands.has_code.Tie as tie
 
-sixty-requires : tie.Need-sixty-requires
-sixty-requires c κs = search needs
+sized-requires : tie.Need-sized-requires
+sized-requires c κs = search needs
 
 element-copy-out-result : tie.Need-element-copy-out-result
 element-copy-out-result c = search needs
 
 returns : tie.Need-returns
-returns c = ap not (eqb-code (getD (c .before .before .before .args .s .now) 10 0) (take 16 (drop 12 (c .before .before .before .args .s .now))) (code-long (c .before .before .before .args .s .now) (c .before .sixty .ensures)))
+returns c = ap not (eqb-code (getD (c .before .before .before .args .s .now) 10 0) (take 16 (drop 12 (c .before .before .before .args .s .now))) (code-long (c .before .before .before .args .s .now) (c .before .sized .ensures)))
 
 pub has-code-spec : {M : Type 1} → statement M
-has-code-spec = tie.close (tie.spec sixty-requires element-copy-out-result returns)
+has-code-spec = tie.close (tie.spec sized-requires element-copy-out-result returns)

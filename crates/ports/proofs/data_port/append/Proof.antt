@@ -5,8 +5,8 @@ use Rattle.machine.proofs.Laws.View.{set-appended}
 use Rattle.ports.proofs.data_port.append.Statement.{statement}
 use Rattle.ports.proofs.data_port.append.Tie as tie
 
-sixty-requires : tie.Need-sixty-requires
-sixty-requires c κs = search needs
+sized-requires : tie.Need-sized-requires
+sized-requires c κs = search needs
 
 element-copy-out-n : tie.Need-element-copy-out-n
 element-copy-out-n c = search needs
@@ -27,13 +27,13 @@ element-write-s-2 : tie.Need-element-write-s-2
 element-write-s-2 c = search needs
 
 returns : tie.Need-returns
-returns c = set-appended (c .before .before .before .args .s .now) (c .before .sixty .ensures) _ (c .before .before .before .pre)
+returns c = set-appended (c .before .before .before .args .s .now) (c .before .sized .ensures) _ (c .before .before .before .pre)
 
 pub append-spec : {M : Type 1} → statement M
 append-spec =
     tie.close
     (tie.spec
-    sixty-requires
+    sized-requires
     element-copy-out-n
     cast-at
     add-at

@@ -5,14 +5,14 @@ use Rattle.machine.proofs.Laws.View.{set-latches}
 use Rattle.ports.proofs.data_port.latch.Statement.{statement}
 use Rattle.ports.proofs.data_port.latch.Tie as tie
 
-sixty-requires : tie.Need-sixty-requires
-sixty-requires c κs = search needs
+sized-requires : tie.Need-sized-requires
+sized-requires c κs = search needs
 
 element-write-s : tie.Need-element-write-s
 element-write-s c = search needs
 
 returns : tie.Need-returns
-returns c = set-latches (c .before .before .args .s .now) (c .sixty .ensures) _
+returns c = set-latches (c .before .before .args .s .now) (c .sized .ensures) _
 
 pub latch-spec : {M : Type 1} → statement M
-latch-spec = tie.close (tie.spec sixty-requires element-write-s returns)
+latch-spec = tie.close (tie.spec sized-requires element-write-s returns)

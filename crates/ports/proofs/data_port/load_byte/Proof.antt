@@ -9,8 +9,8 @@ use Rattle.machine.proofs.Laws.View.{code-full, code-room, code-long}
 use Rattle.ports.proofs.data_port.load_byte.Statement.{statement}
 use Rattle.ports.proofs.data_port.load_byte.Tie as tie
 
-sixty-requires : tie.Need-sixty-requires
-sixty-requires c κs = search needs
+sized-requires : tie.Need-sized-requires
+sized-requires c κs = search needs
 
 settle-requires : tie.Need-settle-requires
 settle-requires c κs = search needs
@@ -31,7 +31,7 @@ drop-code-requires c κs = search needs
 returns-2 : tie.Need-returns-2
 unfolding loadByte
 returns-2 c = c .drop-code .ensures ∙ ap dropped (c .before .before .settle2 .ensures)
-    ∙ simp (ne-eqb _ _ (c .before .before .before .before .before .before .if1 .left), code-full (getD (c .before .before .before .before .before .before .before .before .before .args .s .now) 10 0) (take 16 (drop 12 (c .before .before .before .before .before .before .before .before .before .args .s .now))) (code-long (c .before .before .before .before .before .before .before .before .before .args .s .now) (c .before .before .before .before .before .before .before .sixty .ensures)) (c .before .before .before .before .if2 .taken))
+    ∙ simp (ne-eqb _ _ (c .before .before .before .before .before .before .if1 .left), code-full (getD (c .before .before .before .before .before .before .before .before .before .args .s .now) 10 0) (take 16 (drop 12 (c .before .before .before .before .before .before .before .before .before .args .s .now))) (code-long (c .before .before .before .before .before .before .before .before .before .args .s .now) (c .before .before .before .before .before .before .before .sized .ensures)) (c .before .before .before .before .if2 .taken))
 
 append-requires : tie.Need-append-requires
 append-requires c κs = search needs
@@ -39,13 +39,13 @@ append-requires c κs = search needs
 returns-3 : tie.Need-returns-3
 unfolding loadByte
 returns-3 c = c .append .ensures
-    ∙ simp (ne-eqb _ _ (c .before .before .before .before .if1 .left), code-room (getD (c .before .before .before .before .before .before .before .args .s .now) 10 0) (take 16 (drop 12 (c .before .before .before .before .before .before .before .args .s .now))) (code-long (c .before .before .before .before .before .before .before .args .s .now) (c .before .before .before .before .before .sixty .ensures)) (c .before .before .if2 .left))
+    ∙ simp (ne-eqb _ _ (c .before .before .before .before .if1 .left), code-room (getD (c .before .before .before .before .before .before .before .args .s .now) 10 0) (take 16 (drop 12 (c .before .before .before .before .before .before .before .args .s .now))) (code-long (c .before .before .before .before .before .before .before .args .s .now) (c .before .before .before .before .before .sized .ensures)) (c .before .before .if2 .left))
 
 pub load-byte-spec : {M : Type 1} → statement M
 load-byte-spec =
     tie.close
     (tie.spec
-    sixty-requires
+    sized-requires
     settle-requires
     returns
     element-copy-out-if2

@@ -5,8 +5,8 @@ use Rattle.machine.proofs.Laws.View.{set-settled}
 use Rattle.ports.proofs.data_port.settle.Statement.{statement}
 use Rattle.ports.proofs.data_port.settle.Tie as tie
 
-sixty-requires : tie.Need-sixty-requires
-sixty-requires c κs = search needs
+sized-requires : tie.Need-sized-requires
+sized-requires c κs = search needs
 
 element-write-s : tie.Need-element-write-s
 element-write-s c = search needs
@@ -15,7 +15,7 @@ element-write-s-2 : tie.Need-element-write-s-2
 element-write-s-2 c = search needs
 
 returns : tie.Need-returns
-returns c = set-settled (c .before .before .args .s .now) (c .sixty .ensures)
+returns c = set-settled (c .before .before .args .s .now) (c .sized .ensures)
 
 pub settle-spec : {M : Type 1} → statement M
-settle-spec = tie.close (tie.spec sixty-requires element-write-s element-write-s-2 returns)
+settle-spec = tie.close (tie.spec sized-requires element-write-s element-write-s-2 returns)

@@ -5,8 +5,8 @@ use Rattle.machine.proofs.Laws.Lines.{cellOf-at, cellOf-none}
 use Rattle.ports.proofs.lines.cell.Statement.{statement}
 use Rattle.ports.proofs.lines.cell.Tie as tie
 
-sixty-requires : tie.Need-sixty-requires
-sixty-requires c κs = search needs
+sized-requires : tie.Need-sized-requires
+sized-requires c κs = search needs
 
 add-at : tie.Need-add-at
 add-at c = search needs
@@ -15,10 +15,10 @@ element-copy-out-result : tie.Need-element-copy-out-result
 element-copy-out-result c = search needs
 
 returns : tie.Need-returns
-returns c = cellOf-at (c .before .before .before .before .args .s .now) _ (c .before .before .sixty .ensures) (c .before .if1 .taken)
+returns c = cellOf-at (c .before .before .before .before .args .s .now) _ (c .before .before .sized .ensures) (c .before .if1 .taken)
 
 returns-2 : tie.Need-returns-2
-returns-2 c = cellOf-none (c .before .before .before .args .s .now) _ (c .before .sixty .ensures) (c .if1 .left)
+returns-2 c = cellOf-none (c .before .before .before .args .s .now) _ (c .before .sized .ensures) (c .if1 .left)
 
 pub cell-spec : {M : Type 1} → statement M
-cell-spec = tie.close (tie.spec sixty-requires add-at element-copy-out-result returns returns-2)
+cell-spec = tie.close (tie.spec sized-requires add-at element-copy-out-result returns returns-2)

@@ -6,8 +6,8 @@ use Rattle.machine.proofs.Laws.View.{set-mode}
 use Rattle.ports.proofs.lines.enable_mouse.Statement.{statement}
 use Rattle.ports.proofs.lines.enable_mouse.Tie as tie
 
-sixty-requires : tie.Need-sixty-requires
-sixty-requires c κs = search needs
+sized-requires : tie.Need-sized-requires
+sized-requires c κs = search needs
 
 mode-requires : tie.Need-mode-requires
 mode-requires c κs = search needs
@@ -22,8 +22,8 @@ element-write-s : tie.Need-element-write-s
 element-write-s c = search needs
 
 returns : tie.Need-returns
-returns c = set-mode (c .before .before .before .before .args .s .now) (c .before .before .sixty .ensures) _ ∙ simp (c .mode .ensures)
+returns c = set-mode (c .before .before .before .before .args .s .now) (c .before .before .sized .ensures) _ ∙ simp (c .mode .ensures)
 
 pub enable-mouse-spec : {M : Type 1} → statement M
 enable-mouse-spec =
-    tie.close (tie.spec sixty-requires mode-requires mul-s sub-s element-write-s returns)
+    tie.close (tie.spec sized-requires mode-requires mul-s sub-s element-write-s returns)

@@ -5,14 +5,14 @@ use Rattle.machine.proofs.Laws.View.{set-mode}
 use Rattle.ports.proofs.lines.set_mode.Statement.{statement}
 use Rattle.ports.proofs.lines.set_mode.Tie as tie
 
-sixty-requires : tie.Need-sixty-requires
-sixty-requires c κs = search needs
+sized-requires : tie.Need-sized-requires
+sized-requires c κs = search needs
 
 element-write-s : tie.Need-element-write-s
 element-write-s c = search needs
 
 returns : tie.Need-returns
-returns c = set-mode (c .before .before .args .s .now) (c .sixty .ensures) _
+returns c = set-mode (c .before .before .args .s .now) (c .sized .ensures) _
 
 pub set-mode-spec : {M : Type 1} → statement M
-set-mode-spec = tie.close (tie.spec sixty-requires element-write-s returns)
+set-mode-spec = tie.close (tie.spec sized-requires element-write-s returns)
