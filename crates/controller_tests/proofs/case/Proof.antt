@@ -12,20 +12,17 @@ slice-aggregate-parse c = search needs
 parse-requires : tie.Need-parse-requires
 parse-requires c κs = search needs
 
-start-requires : tie.Need-start-requires
-start-requires c κs = search needs
-
 array-share-prefix-list : tie.Need-array-share-prefix-list
 array-share-prefix-list c = search needs
 
-slice-aggregate-run : tie.Need-slice-aggregate-run
-slice-aggregate-run c = simp length-take (omega arith)
+slice-aggregate-run-fresh : tie.Need-slice-aggregate-run-fresh
+slice-aggregate-run-fresh c = simp length-take (omega arith)
 
-slice-aggregate-run-2 : tie.Need-slice-aggregate-run-2
-slice-aggregate-run-2 c = search needs
+slice-aggregate-run-fresh-2 : tie.Need-slice-aggregate-run-fresh-2
+slice-aggregate-run-fresh-2 c = search needs
 
-run-requires : tie.Need-run-requires
-run-requires c κs = search needs
+run-fresh-requires : tie.Need-run-fresh-requires
+run-fresh-requires c κs = search needs
 
 put-requires : tie.Need-put-requires
 put-requires c κs = search needs
@@ -57,11 +54,10 @@ case-spec =
     (tie.spec
     slice-aggregate-parse
     parse-requires
-    start-requires
     array-share-prefix-list
-    slice-aggregate-run
-    slice-aggregate-run-2
-    run-requires
+    slice-aggregate-run-fresh
+    slice-aggregate-run-fresh-2
+    run-fresh-requires
     put-requires
     slice-aggregate-put
     put-requires-2

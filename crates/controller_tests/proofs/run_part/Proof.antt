@@ -12,20 +12,17 @@ returns c = search needs
 returns-2 : tie.Need-returns-2
 returns-2 c = search needs
 
-start-requires : tie.Need-start-requires
-start-requires c κs = search needs
+slice-aggregate-run-fresh : tie.Need-slice-aggregate-run-fresh
+slice-aggregate-run-fresh c = simp length-take (omega arith)
 
-slice-aggregate-run : tie.Need-slice-aggregate-run
-slice-aggregate-run c = simp length-take (omega arith)
+slice-relend-prefix-run-fresh : tie.Need-slice-relend-prefix-run-fresh
+slice-relend-prefix-run-fresh c = search needs
 
-slice-relend-prefix-run : tie.Need-slice-relend-prefix-run
-slice-relend-prefix-run c = search needs
+slice-aggregate-run-fresh-2 : tie.Need-slice-aggregate-run-fresh-2
+slice-aggregate-run-fresh-2 c = simp length-take (omega arith)
 
-slice-aggregate-run-2 : tie.Need-slice-aggregate-run-2
-slice-aggregate-run-2 c = simp length-take (omega arith)
-
-run-requires : tie.Need-run-requires
-run-requires c κs = search needs
+run-fresh-requires : tie.Need-run-fresh-requires
+run-fresh-requires c κs = search needs
 
 same-length : tie.Need-same-length
 same-length c = search needs
@@ -39,10 +36,9 @@ run-part-spec =
     (tie.spec
     returns
     returns-2
-    start-requires
-    slice-aggregate-run
-    slice-relend-prefix-run
-    slice-aggregate-run-2
-    run-requires
+    slice-aggregate-run-fresh
+    slice-relend-prefix-run-fresh
+    slice-aggregate-run-fresh-2
+    run-fresh-requires
     same-length
     returns-3)
