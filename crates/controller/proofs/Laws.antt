@@ -1,3 +1,3 @@
--- Laws of what the calls promise, and of lists of events.
-pub mod Done
+-- Laws of the promises in specs/.
+pub mod Events
 pub mod Run

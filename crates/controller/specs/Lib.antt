@@ -1,1 +1,2 @@
-pub mod Done
+pub mod Promises
+pub mod Steps

@@ -1,3 +1,4 @@
-// The controller: one event, and a list of events.
+// The controller: one event, a list of events, and which check would refuse one.
+pub mod checks;
 pub mod events;
 pub mod run;

@@ -5,47 +5,80 @@ use machine::state::start;
 ghost use mathlib.Core.Path.{_≡_};
 ghost use Prim.Native.Nat.{_≤_};
 ghost use lib.ListN.{length};
+ghost use Rattle.machine.specs.Events as events;
+ghost use Rattle.machine.specs.Events.{event};
 ghost use Rattle.machine.specs.Run.{first, lengthRefusal};
-ghost use Rattle.controller.specs.Done.{Responded, Went, Ran, RanFresh};
+ghost use Rattle.machine.specs.View.{public};
+ghost use Rattle.controller.specs.Promises.{EventAnswered, FittingRun, ListRun, FreshRun};
+ghost use Rattle.controller.specs.Steps.{EventWritten, PieceRun};
 
 // The longest list that a call takes, in bytes.
 const LIST_MOST: usize = 21000;
 
+// A piece of a list, 500 events, and the bytes of its answers.
+const PIECE: usize = 1500;
+
+const PIECE_ANSWERS: usize = 4500;
+
 // The first event of a list, and its answer at the front of the buffer.
 fn run_first(s: &mut State, list: &[u8], answers: &mut [u8])
     requires { ⌜ (3 ≤ length (now list)) × (9 ≤ length (now answers)) ⌝ }
-    ensures { λ _. ⌜ Responded (now (s .entry)) (first (now (list .entry))) (now (answers .entry)) (now (s .exit)) (now (answers .exit)) ⌝ }
+    ensures { λ _. ⌜ EventWritten (now (s .entry)) (first (now (list .entry))) (now (answers .entry)) (now (s .exit)) (now (answers .exit)) ⌝ }
 {
     respond(s, list[0], list[1], list[2], answers);
 }
 
-// A list of any length, as far as the buffer has room.
-fn run_rest(s: &mut State, list: &[u8], answers: &mut [u8])
-    ensures { λ _. ⌜ Went (now (s .entry)) (now (list .entry)) (now (answers .entry)) (now (s .exit)) (now (answers .exit)) ⌝ }
+// A piece of a list, one event at least, as far as the buffer has room. Each event is a level of the recursion.
+fn run_piece(s: &mut State, list: &[u8], answers: &mut [u8])
+    requires { ⌜ (3 ≤ length (now list)) × (9 ≤ length (now answers)) ⌝ }
+    ensures { λ _. ⌜ PieceRun (now (s .entry)) (now (list .entry)) (now (answers .entry)) (now (s .exit)) (now (answers .exit)) ⌝ }
 {
-    if list.len() < 3 {
-        return;
-    }
-    if answers.len() < 9 {
-        return;
-    }
     run_first(s, list, answers);
-    run_rest(s, &list[3..], &mut answers[9..]); // each event hands on the rest
+    if list.len() < 6 {
+        return;
+    }
+    if answers.len() < 18 {
+        return;
+    }
+    run_piece(s, &list[3..], &mut answers[9..]); // each event hands on the rest
 }
 
-// The same, with the first event apart: with two callers, one event stays a function of its own in the compiled code, and a level of the
-// recursion does not hold all that it works with.
+// A list of any length, as far as the buffer has room: in pieces, so that the stack is never more than one of them needs.
 pub fn run_fitting(s: &mut State, list: &[u8], answers: &mut [u8])
-    ensures { λ _. ⌜ Went (now (s .entry)) (now (list .entry)) (now (answers .entry)) (now (s .exit)) (now (answers .exit)) ⌝ }
+    ensures { λ _. ⌜ FittingRun (now (s .entry)) (now (list .entry)) (now (answers .entry)) (now (s .exit)) (now (answers .exit)) ⌝ }
 {
-    if list.len() < 3 {
+    let mut done = 0;
+    let mut told = 0;
+    while (PIECE <= list.len() - done) & (PIECE_ANSWERS <= answers.len() - told) {
+        let end = done + PIECE;
+        run_piece(s, &list[done..end], &mut answers[told..]);
+        done = end;
+        told += PIECE_ANSWERS;
+    }
+    if list.len() - done < 3 {
         return;
     }
-    if answers.len() < 9 {
+    if answers.len() - told < 9 {
         return;
     }
-    run_first(s, list, answers);
-    run_rest(s, &list[3..], &mut answers[9..]);
+    run_piece(s, &list[done..], &mut answers[told..]);
+}
+
+// One event from any state, and its nine answer bytes: a list of one.
+pub fn event(s: &mut State, kind: u8, low: u8, high: u8, answer: &mut [u8; 9])
+    ensures { λ _. ⌜ EventAnswered (now (s .entry)) (event kind low high) (now (s .exit)) (now (answer .exit)) ⌝ }
+{
+    let list = [kind, low, high];
+    run_piece(s, &list, answer);
+}
+
+// What the lines show with no event. An event of no kind is refused, so its answer has the lines as they are.
+pub fn show_lines(s: &State, answer: &mut [u8; 9])
+    ensures { λ _. ⌜ now (answer .exit) ≡ events.standing (public (now (s .entry))) ⌝ }
+{
+    let mut same = *s;
+    event(&mut same, 9, 0, 0, answer);
+    answer[0] = 0;
 }
 
 // The checks of a whole call.
@@ -63,7 +96,7 @@ pub fn list_refusal(list: usize, space: usize) -> u8
 
 // A list of at most 7,000 events, each answered: 0, or the number of the check that refuses the call.
 pub fn run(s: &mut State, list: &[u8], answers: &mut [u8]) -> u8
-    ensures { λ r. ⌜ Ran (now (s .entry)) (now (list .entry)) (now (answers .entry)) r (now (s .exit)) (now (answers .exit)) ⌝ }
+    ensures { λ r. ⌜ ListRun (now (s .entry)) (now (list .entry)) (now (answers .entry)) r (now (s .exit)) (now (answers .exit)) ⌝ }
 {
     let refusal = list_refusal(list.len(), answers.len());
     if refusal != 0 {
@@ -75,7 +108,7 @@ pub fn run(s: &mut State, list: &[u8], answers: &mut [u8]) -> u8
 
 // A list run by a fresh controller, whose state is not wanted afterwards.
 pub fn run_fresh(list: &[u8], answers: &mut [u8]) -> u8
-    ensures { λ r. ⌜ RanFresh (now (list .entry)) (now (answers .entry)) (now (answers .exit)) r ⌝ }
+    ensures { λ r. ⌜ FreshRun (now (list .entry)) (now (answers .entry)) (now (answers .exit)) r ⌝ }
 {
     let mut s = start();
     run(&mut s, list, answers)

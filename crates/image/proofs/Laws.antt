@@ -1,8 +1,6 @@
 -- Laws of the definitions, in files of the same names, and what they rest on.
 pub mod Tests
-pub mod Lists
 pub mod Copy
-pub mod Bits
 pub mod Sum
 pub mod Layout
 pub mod Save
@@ -11,4 +9,5 @@ pub mod Trailer
 pub mod Rules
 pub mod Load
 pub mod RoundTrip
-pub mod Resume
+pub mod Promises
+pub mod Run

@@ -4,8 +4,9 @@ use mathlib.Core.Bool.{Bool, cond, _&&_}
 use mathlib.Core.List.{List, []}
 use lib.ListN.{length, take, drop}
 use lib.Dec.{eqb, leb}
+use Rattle.machine.specs.View.{at}
 use Rattle.image.specs.Sum.{word, sum}
-use Rattle.image.specs.Layout.{bodyLength, trailerLength, at}
+use Rattle.image.specs.Layout.{bodyLength, trailerLength, imageLength}
 
 -- the last n bytes
 abbrev pub lastBytes : ℕ → List ℕ → List ℕ
@@ -32,3 +33,7 @@ ends edition n bytes =
 -- The body, or nothing where check 10 stands.
 unfoldable pub found : List ℕ → List ℕ
 found bytes = cond (ends 1 bodyLength bytes) (bodyOf bodyLength bytes) []
+
+-- Where the body starts, or the length where there is none.
+unfoldable pub bodyStart : List ℕ → ℕ
+bodyStart bytes = cond (ends 1 bodyLength bytes) (length bytes - imageLength) (length bytes)

@@ -4,3 +4,6 @@ pub mod Save
 pub mod Find
 pub mod Rules
 pub mod Load
+pub mod Restored
+pub mod Promises
+pub mod Run

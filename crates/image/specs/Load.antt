@@ -4,7 +4,8 @@ use mathlib.Core.Bool.{cond}
 use mathlib.Core.List.{List}
 use lib.Dec.{eqb}
 use Rattle.machine.specs.State.{Machine}
-use Rattle.image.specs.Layout.{bodyLength, machineOf}
+use Rattle.machine.specs.View.{view}
+use Rattle.image.specs.Layout.{bodyLength}
 use Rattle.image.specs.Find.{ends, found}
 use Rattle.image.specs.Rules.{bodyKept}
 
@@ -14,4 +15,4 @@ loadRefusal bytes = cond (ends 1 bodyLength bytes) (cond (bodyKept (found bytes)
 
 -- The machine of the body; a refused load leaves the machine as it was.
 unfoldable pub loaded : Machine → List ℕ → Machine
-loaded m bytes = cond (eqb (loadRefusal bytes) 0) (machineOf (found bytes)) m
+loaded m bytes = cond (eqb (loadRefusal bytes) 0) (view (found bytes)) m

@@ -5,7 +5,7 @@ use mathlib.Core.List.{List, [], _∷_}
 use lib.ListN.{take, drop}
 use lib.Dec.{eqb, leb, ltb}
 use Rattle.translation.specs.Bits.{has}
-use Rattle.image.specs.Layout.{at}
+use Rattle.machine.specs.View.{at}
 
 -- Flags: bit 7 is unused; mouse source needs OBF.
 unfoldable pub flagsKept : List ℕ → Bool

@@ -5,12 +5,19 @@ use mathlib.Core.List.{List, _++_}
 use lib.ListN.{length, drop}
 use lib.Dec.{ltb}
 use Rattle.machine.specs.State.{Machine}
-use Rattle.image.specs.Layout.{imageLength, image}
+use Rattle.image.specs.Layout.{imageLength, sealed, image}
 
 -- Check 9: under 68 bytes of space.
 unfoldable pub saveRefusal : List ℕ → ℕ
 saveRefusal space = cond (ltb (length space) imageLength) 9 0
 
 -- A save writes the first 68 bytes; those past them stay, and a refused one writes nothing.
-unfoldable pub saved : Machine → List ℕ → List ℕ
-saved m space = cond (ltb (length space) imageLength) space (image m ++ drop imageLength space)
+unfoldable pub written : List ℕ → List ℕ → List ℕ
+written bytes space = cond (ltb (length space) imageLength) space (bytes ++ drop imageLength space)
+
+-- the space after the save of a state's bytes, whatever they are, and of a machine
+abbrev pub savedBytes : List ℕ → List ℕ → List ℕ
+savedBytes s space = written (sealed 1 s) space
+
+abbrev pub saved : Machine → List ℕ → List ℕ
+saved m space = written (image m) space

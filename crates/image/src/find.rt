@@ -1,6 +1,7 @@
 // The image at the end of a caller's bytes.
 use crate::layout::BODY;
 use crate::layout::EDITION;
+use crate::layout::IMAGE;
 use crate::layout::TRAILER;
 use crate::sum::sum;
 use crate::sum::word;
@@ -47,4 +48,16 @@ pub fn find(bytes: &[u8]) -> &[u8]
     let distance = word(bytes[at], bytes[at + 1]) as usize;
     let start = at - distance;
     &bytes[start..at]
+}
+
+// Where that body starts, or how many bytes there are where check 10 stands.
+pub fn body_start(bytes: &[u8]) -> usize
+    ensures { λ r. ⌜ r ≡ spec.bodyStart (now (bytes .entry)) ⌝ }
+{
+    let body = find(bytes);
+    if body.len() == 0 {
+        bytes.len()
+    } else {
+        bytes.len() - IMAGE
+    }
 }

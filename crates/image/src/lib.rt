@@ -4,5 +4,6 @@ pub mod find;
 mod layout;
 pub mod load;
 mod rules;
+pub mod run;
 pub mod save;
 mod sum;

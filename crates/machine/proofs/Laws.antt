@@ -1,16 +1,25 @@
 -- Laws of the definitions, in files of the same names.
 pub mod Cond
-pub mod State
+pub mod Lists
 pub mod Lines
 pub mod Bounds
+pub mod Bits
+pub mod DataPort
 pub mod Commands
+pub mod Frames
 pub mod Events
+pub mod Alike
 pub mod KeptParts
 pub mod KeptLines
 pub mod KeptDataPort
 pub mod KeptCommands
 pub mod KeptFrames
 pub mod Kept
+pub mod Run
 pub mod Flags
+pub mod Code
 pub mod View
+pub mod Body
+pub mod Changed
+pub mod Told
 pub mod Worked

@@ -53,11 +53,15 @@ dropped m = withSecret m (record { code = []; position = m .secret .position })
 abbrev pub appended : ℕ → Machine → Machine
 appended v m = withSecret m (record { code = m .secret .code ++ (v ∷ []); position = m .secret .position })
 
+-- the code has its sixteen bytes
+abbrev pub codeFull : Machine → Bool
+codeFull m = leb 16 (length (m .secret .code))
+
 -- Code 3, a load: bytes are appended until 00h ends it; a 17th ends it with no code.
 unfoldable pub loadByte : ℕ → Machine → Machine
 loadByte v m =
     cond (eqb v 0) (lift settled m)
-    (cond (leb 16 (length (m .secret .code))) (dropped (lift settled m)) (appended v m))
+    (cond (codeFull m) (dropped (lift settled m)) (appended v m))
 
 -- Kind 1: C is 0, the pending code says what the byte does, and then is none, except during a load.
 unfoldable pub writeData : ℕ → Machine → Machine

@@ -105,6 +105,10 @@ lines p pulsed =
 abbrev pub refusedReply : Public → ℕ → List ℕ
 refusedReply p n = n ∷ 0 ∷ 0 ∷ lines p 0
 
+-- What the lines show with no event, in the same nine bytes.
+abbrev pub standing : Public → List ℕ
+standing p = refusedReply p 0
+
 -- The nine bytes, from the public part before the event, the event, and the public part after it.
 unfoldable pub reply : Public → Event → Public → List ℕ
 reply p e q =

@@ -11,8 +11,8 @@ use Rattle.machine.specs.Lines.{put, putMouse, putCell, cellOf, inhibite
 use Rattle.machine.specs.DataPort.{send}
 
 -- The error bits after a frame: a broken one sets TERR, a wrong parity PERR, and the other is cleared.
-abbrev pub judged : Bool → Bool → Public → Public
-judged t e p = withErrors p (record { timeout = t; parity = e })
+abbrev pub errorsSet : Bool → Bool → Public → Public
+errorsSet t e p = withErrors p (record { terr = t; perr = e })
 
 abbrev pub positioned : ℕ → Machine → Machine
 positioned k m = withSecret m (record { code = m .secret .code; position = k })
@@ -27,7 +27,7 @@ breaking b p = withBreaks p b
 
 -- A damaged keyboard frame clears the break flag and the position.
 abbrev pub damagedKey : Bool → Bool → Machine → Machine
-damagedKey t e m = positioned 0 (lift keyError (lift (breaking false) (lift (judged t e) m)))
+damagedKey t e m = positioned 0 (lift keyError (lift (breaking false) (lift (errorsSet t e) m)))
 
 -- A byte that is no key of a code: a break code, or one that cell 16h or 17h names.
 abbrev pub ignored : ℕ → Public → Bool
@@ -71,7 +71,7 @@ translated b p = cond (translates p || p .locked) (translate builtIn b (p .break
 unfoldable pub soundKey : ℕ → Machine → Machine
 soundKey b m =
     let t = translated b (m .plain) in
-    keyed (t .yields) (lift (breaking (t .breaks)) (lift (judged false false) m))
+    keyed (t .yields) (lift (breaking (t .breaks)) (lift (errorsSet false false) m))
 
 unfoldable pub keyboardFrame : Check → Machine → Machine
 keyboardFrame (sound b) m = soundKey b m
@@ -83,9 +83,9 @@ unfoldable pub mousePut : ℕ → Public → Public
 mousePut b p = cond (p .locked) p (putMouse b p)
 
 unfoldable pub mouseFrame : Check → Public → Public
-mouseFrame (sound b) p = mousePut b (judged false false p)
-mouseFrame parity p = mousePut 0xFF (judged false true p)
-mouseFrame broken p = mousePut 0xFF (judged true false p)
+mouseFrame (sound b) p = mousePut b (errorsSet false false p)
+mouseFrame parity p = mousePut 0xFF (errorsSet false true p)
+mouseFrame broken p = mousePut 0xFF (errorsSet true false p)
 
 -- nothing is being sent any more
 abbrev pub idle : Public → Public
@@ -93,11 +93,11 @@ idle p = send 0 0 p
 
 -- Kind 6: the device took the byte.
 abbrev pub taken : Public → Public
-taken p = judged false false (idle p)
+taken p = errorsSet false false (idle p)
 
 -- Kind 7: it did not: FEh is put with the source of the device that was sent to.
 unfoldable pub timedOut : Public → Public
-timedOut p = cond (eqb (p .sending .to) 2) (putMouse 0xFE (judged true false (idle p))) (put 0xFE (judged true false (idle p)))
+timedOut p = cond (eqb (p .sending .to) 2) (putMouse 0xFE (errorsSet true false (idle p))) (put 0xFE (errorsSet true false (idle p)))
 
 -- Kind 8: P1 is the value.
 abbrev pub pinned : ℕ → Public → Public

@@ -8,4 +8,6 @@ pub mod Run
 pub mod Kept
 pub mod Flags
 pub mod View
+pub mod Changed
+pub mod Told
 pub mod Worked

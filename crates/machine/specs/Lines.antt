@@ -81,7 +81,7 @@ nibble a b c d = weight 1 a + weight 2 b + weight 4 c + weight 8 d
 unfoldable pub highNibble : Public → ℕ
 highNibble p =
     cond (p .host .overlay) (p .host .nibble % 16)
-    (nibble (keySwitch p) (p .output .full && p .output .mouse) (p .errors .timeout) (p .errors .parity))
+    (nibble (keySwitch p) (p .output .full && p .output .mouse) (p .errors .terr) (p .errors .perr))
 
 -- Status: bit 0 OBF, 1 IBF, 2 SYS, 3 C, and bits 4-7.
 unfoldable pub status : Public → ℕ

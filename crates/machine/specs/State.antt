@@ -12,8 +12,8 @@ pub record Output : Type 0 where
 
 -- The error bits: TERR, a broken frame or a transmit time-out, and PERR, a parity error.
 pub record Errors : Type 0 where
-  pub timeout : Bool
-  pub parity : Bool
+  pub terr : Bool
+  pub perr : Bool
 
 -- What the host wrote: the command flag C, the pending code, the RAM cell of code 2, and the status overlay.
 pub record Host : Type 0 where
@@ -92,7 +92,7 @@ fresh =
     record {
       plain = record {
         output = record { byte = 0; full = false; mouse = false };
-        errors = record { timeout = false; parity = false };
+        errors = record { terr = false; perr = false };
         host = record { command = false; pending = 0; cell = 0; overlay = false; nibble = 0 };
         ports = record { pins = 0xFF; p20 = true; p21 = true };
         sending = record { to = 0; byte = 0 };

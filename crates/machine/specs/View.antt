@@ -1,21 +1,66 @@
--- The machine that the program's state stands for: sixty bytes. No other definition names their layout.
-use Prim.Native.Nat.{ℕ}
-use mathlib.Core.List.{List, _∷_}
+-- "Saved image", the body: the bytes that the program holds its state in are those that an image has of it. One table, read both ways.
+use Prim.Native.Nat.{ℕ, _+_, _-_, _*_}
+use mathlib.Core.Path.{_≡_}
+use mathlib.Core.Bool.{false}
+use mathlib.Core.List.{List, [], _∷_, _++_}
 use lib.Dec.{eqb}
-use lib.ListN.{getD, take, drop}
+use lib.ListN.{length, getD, take, drop, replicate}
 use Rattle.translation.specs.Bits.{has}
 use Rattle.machine.specs.State.{Machine, Public}
+use Rattle.machine.specs.Lines.{nibble}
 use Rattle.machine.specs.Flags.{flagsOf}
 
-abbrev at : List ℕ → ℕ → ℕ
+-- how many bytes the state has
+abbrev pub stateLength : ℕ
+stateLength = 60
+
+-- Byte 1: OBF, mouse source, C, TERR, PERR, break, locked in bits 0-6.
+abbrev pub flags : Public → ℕ
+flags p =
+    nibble (p .output .full) (p .output .mouse) (p .host .command) (p .errors .terr)
+    + 16 * nibble (p .errors .perr) (p .breaks) (p .locked) false
+
+-- Byte 3: P20 and P21 in bits 0 and 1.
+abbrev pub latches : Public → ℕ
+latches p = nibble (p .ports .p20) (p .ports .p21) false false
+
+-- Bytes 0-11: output byte, flags, P1, latches, pending, cell for code 2, overlay present, its nibble, destination, byte, code length, position.
+abbrev pub head : Machine → List ℕ
+head m =
+    let p = m .plain in
+    p .output .byte
+    ∷ flags p
+    ∷ p .ports .pins
+    ∷ latches p
+    ∷ p .host .pending
+    ∷ p .host .cell
+    ∷ nibble (p .host .overlay) false false false
+    ∷ p .host .nibble
+    ∷ p .sending .to
+    ∷ p .sending .byte
+    ∷ length (m .secret .code)
+    ∷ m .secret .position
+    ∷ []
+
+-- Bytes 12-27: the lock code, zeros after.
+abbrev pub padded : List ℕ → List ℕ
+padded code = code ++ replicate (16 - length code) 0
+
+-- The bytes of a machine; 28-59 are the RAM.
+unfoldable pub body : Machine → List ℕ
+body m = head m ++ padded (m .secret .code) ++ m .plain .ram
+
+-- byte k
+abbrev pub at : List ℕ → ℕ → ℕ
 at s k = getD s k 0
 
+-- The machine of sixty bytes, whatever they are: the same table, read.
 abbrev pub public : List ℕ → Public
 public s =
     let flags = flagsOf (at s 1) in
     record {
       output = record { byte = at s 0; full = flags .full; mouse = flags .mouse };
-      errors = record { timeout = flags .timeout; parity = flags .parity };
+      errors = record { terr = flags .terr; perr = flags .perr };
       host = record { command = flags .command; pending = at s 4; cell = at s 5; overlay = eqb (at s 6) 1; nibble = at s 7 };
       ports = record { pins = at s 2; p20 = has (at s 3) 0; p21 = has (at s 3) 1 };
       sending = record { to = at s 8; byte = at s 9 };
@@ -27,3 +72,7 @@ public s =
 -- the lock code's length is byte 10, and its bytes stand from byte 12 on
 abbrev pub view : List ℕ → Machine
 view s = record { plain = public s; secret = record { code = take (at s 10) (take 16 (drop 12 s)); position = at s 11 } }
+
+-- The bytes are those of their machine: what stands for nothing in them is 0.
+abbrev pub IsBody : List ℕ → Type 0
+IsBody s = s ≡ body (view s)

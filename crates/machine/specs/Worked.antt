@@ -36,11 +36,11 @@ statusRead = event 2 0 0
 abbrev pub byteTaken : Event
 byteTaken = event 6 0 0
 
-abbrev pub framed : ℕ → Event
-framed f = event 4 (f % 256) (f / 256)
+abbrev pub frameEvent : ℕ → Event
+frameEvent f = event 4 (f % 256) (f / 256)
 
 abbrev pub key : ℕ → Event
-key b = framed (frame b)
+key b = frameEvent (frame b)
 
 -- each key followed by a read of port 60h
 abbrev pub typed : List ℕ → List Event
@@ -90,7 +90,7 @@ unfoldable pub holds : Row → Bool
 holds (gives bytes codes) = same (reads fresh (command 0xAE ∷ typed bytes)) codes
 holds (found f c) =
     same (shown (check f)) (shown c)
-    && same (reads fresh (command 0x60 ∷ written 0 ∷ framed f ∷ statusRead ∷ dataRead ∷ [])) (shown c)
+    && same (reads fresh (command 0x60 ∷ written 0 ∷ frameEvent f ∷ statusRead ∷ dataRead ∷ [])) (shown c)
 holds (opens code bytes) = opensAt (after fresh (command 0xAE ∷ (loaded code ++ (command 0xA6 ∷ [])))) bytes
 holds (loads n ok) =
     same (codeAfter (loading n)) (cond ok (from 1 n) [])

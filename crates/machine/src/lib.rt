@@ -1,4 +1,6 @@
 // The 8042 keyboard controller in PS/2 mode: the definitions of the machine, and the state that stands for it.
+pub mod events;
 pub mod flags;
+pub mod lines;
 pub mod state;
 pub mod weights;

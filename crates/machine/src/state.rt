@@ -1,9 +1,9 @@
-// The controller's state: sixty bytes, which a run changes in place. They stand in the order of a saved image's body.
+// The controller's state: sixty bytes, which a run changes in place. They are those of a saved image's body.
 ghost use mathlib.Core.Path.{_≡_};
 ghost use Prim.Native.Nat.{_≤_};
 ghost use lib.ListN.{length};
 ghost use Rattle.machine.specs.State.{fresh};
-ghost use Rattle.machine.specs.View.{view};
+ghost use Rattle.machine.specs.View.{stateLength, body, view};
 
 pub type State = [u8; 60];
 
@@ -46,7 +46,7 @@ pub const MODE: usize = 28;
 
 // The length that the type has, told to the proofs: they do not learn it of an array behind a reference. It compiles to nothing.
 pub fn sized(s: State)
-    ensures { λ _. ⌜ length s ≡ 60 ⌝ }
+    ensures { λ _. ⌜ length s ≡ stateLength ⌝ }
 {}
 
 // How long the lock code is.
@@ -60,7 +60,7 @@ pub fn code_length(s: &State) -> u8
 
 // A controller after power-on.
 pub fn start() -> State
-    ensures { λ r. ⌜ view r ≡ fresh ⌝ }
+    ensures { λ r. ⌜ (r ≡ body fresh) × (view r ≡ fresh) ⌝ }
 {
     let mut s = [0u8; 60];
     s[PINS] = 0xFF;

@@ -1,19 +1,22 @@
-// A command byte written to port 64h.
+// Kind 3, a command byte written to port 64h.
+use crate::checks::write_refusal;
 use crate::data_port::drop_code;
-use crate::lines::cell;
-use crate::lines::disable_keyboard;
-use crate::lines::disable_mouse;
-use crate::lines::enable_keyboard;
-use crate::lines::enable_mouse;
-use crate::lines::keyboard_off;
-use crate::lines::mode;
-use crate::lines::mouse_off;
-use crate::lines::output_port;
-use crate::lines::put;
-use crate::lines::put_cell;
-use crate::lines::set_mode;
+use crate::mode::disable_keyboard;
+use crate::mode::disable_mouse;
+use crate::mode::enable_keyboard;
+use crate::mode::enable_mouse;
+use crate::mode::set_mode;
+use machine::events::Told;
+use machine::events::quiet;
 use machine::flags::with_command;
 use machine::flags::with_locked;
+use machine::lines::cell;
+use machine::lines::keyboard_off;
+use machine::lines::mode;
+use machine::lines::mouse_off;
+use machine::lines::output_port;
+use machine::lines::put;
+use machine::lines::put_cell;
 use machine::state::CELL;
 use machine::state::FLAGS;
 use machine::state::LENGTH;
@@ -30,7 +33,10 @@ ghost use Prim.Native.Nat.{_/_, _%_};
 ghost use Rattle.machine.specs.State.{lift};
 ghost use Rattle.machine.specs.Lines as lines;
 ghost use Rattle.machine.specs.Commands as command;
-ghost use Rattle.machine.specs.View.{public, view};
+ghost use Rattle.machine.specs.Events.{event};
+ghost use Rattle.machine.specs.View.{view};
+ghost use Rattle.machine.specs.Changed.{Changed};
+ghost use Rattle.machine.specs.Told.{EventTold};
 
 // The pending code that each command byte leaves.
 const PENDING_CODES: [u8; 256] = [
@@ -323,7 +329,7 @@ fn cell_named(c: u8) -> u8
 
 // The command flag is set, the overlay ends, and the pending code is the command's own.
 fn command_written(s: &mut State, c: u8)
-    ensures { λ _. ⌜ view (now (s .exit)) ≡ lift (command.commandWritten c) (view (now (s .entry))) ⌝ }
+    ensures { λ _. ⌜ Changed (lift (command.commandWritten c)) (now (s .entry)) (now (s .exit)) ⌝ }
 {
     sized(*s);
     let flags = s[FLAGS];
@@ -336,7 +342,7 @@ fn command_written(s: &mut State, c: u8)
 
 // A load that a command cuts short leaves no code.
 fn cut_load(s: &mut State)
-    ensures { λ _. ⌜ view (now (s .exit)) ≡ command.loadCut (view (now (s .entry))) ⌝ }
+    ensures { λ _. ⌜ Changed command.loadCut (now (s .entry)) (now (s .exit)) ⌝ }
 {
     if s[PENDING] == 3 {
         drop_code(s);
@@ -345,7 +351,7 @@ fn cut_load(s: &mut State)
 
 // Bits 4-7 of the status are replaced until the next command.
 fn overlay(s: &mut State, n: u8)
-    ensures { λ _. ⌜ view (now (s .exit)) ≡ lift (command.overlaid n) (view (now (s .entry))) ⌝ }
+    ensures { λ _. ⌜ Changed (lift (command.overlaid n)) (now (s .entry)) (now (s .exit)) ⌝ }
 {
     sized(*s);
     s[OVERLAY] = 1;
@@ -354,7 +360,7 @@ fn overlay(s: &mut State, n: u8)
 
 // The self-test switches both devices on, sets SYS and reports success.
 fn self_test(s: &mut State)
-    ensures { λ _. ⌜ view (now (s .exit)) ≡ lift command.selfTested (view (now (s .entry))) ⌝ }
+    ensures { λ _. ⌜ Changed (lift command.selfTested) (now (s .entry)) (now (s .exit)) ⌝ }
 {
     let n = mode(s);
     let on = n - n / 16 % 2 * 16;
@@ -365,21 +371,21 @@ fn self_test(s: &mut State)
 
 // The test inputs: which devices are not off.
 fn put_test_inputs(s: &mut State)
-    ensures { λ _. ⌜ view (now (s .exit)) ≡ lift command.testInputsPut (view (now (s .entry))) ⌝ }
+    ensures { λ _. ⌜ Changed (lift command.testInputsPut) (now (s .entry)) (now (s .exit)) ⌝ }
 {
     let inputs = nibble(!keyboard_off(s), !mouse_off(s), false, false);
     put(s, inputs);
 }
 
 fn put_output_port(s: &mut State)
-    ensures { λ _. ⌜ view (now (s .exit)) ≡ lift command.outputPortPut (view (now (s .entry))) ⌝ }
+    ensures { λ _. ⌜ Changed (lift command.outputPortPut) (now (s .entry)) (now (s .exit)) ⌝ }
 {
     let port = output_port(s);
     put(s, port);
 }
 
 fn put_named_cell(s: &mut State, c: u8)
-    ensures { λ _. ⌜ view (now (s .exit)) ≡ lift (command.namedCellPut (c % 32)) (view (now (s .entry))) ⌝ }
+    ensures { λ _. ⌜ Changed (lift (command.namedCellPut (c % 32))) (now (s .entry)) (now (s .exit)) ⌝ }
 {
     let byte = cell(s, c % 32);
     put(s, byte);
@@ -387,21 +393,21 @@ fn put_named_cell(s: &mut State, c: u8)
 
 // The pins put, or half of them shown over the status.
 fn put_pins(s: &mut State)
-    ensures { λ _. ⌜ view (now (s .exit)) ≡ lift (λ p. lines.put (p .ports .pins) p) (view (now (s .entry))) ⌝ }
+    ensures { λ _. ⌜ Changed (lift (λ p. lines.put (p .ports .pins) p)) (now (s .entry)) (now (s .exit)) ⌝ }
 {
     let pins = s[PINS];
     put(s, pins);
 }
 
 fn show_low_pins(s: &mut State)
-    ensures { λ _. ⌜ view (now (s .exit)) ≡ lift (λ p. command.overlaid (p .ports .pins % 16) p) (view (now (s .entry))) ⌝ }
+    ensures { λ _. ⌜ Changed (lift (λ p. command.overlaid (p .ports .pins % 16) p)) (now (s .entry)) (now (s .exit)) ⌝ }
 {
     let pins = s[PINS];
     overlay(s, pins % 16);
 }
 
 fn show_high_pins(s: &mut State)
-    ensures { λ _. ⌜ view (now (s .exit)) ≡ lift (λ p. command.overlaid (p .ports .pins / 16) p) (view (now (s .entry))) ⌝ }
+    ensures { λ _. ⌜ Changed (lift (λ p. command.overlaid (p .ports .pins / 16) p)) (now (s .entry)) (now (s .exit)) ⌝ }
 {
     let pins = s[PINS];
     overlay(s, pins / 16);
@@ -409,7 +415,7 @@ fn show_high_pins(s: &mut State)
 
 // The commands that concern the public part alone.
 fn plain_command(s: &mut State, c: u8)
-    ensures { λ _. ⌜ view (now (s .exit)) ≡ lift (command.plainCommand c) (view (now (s .entry))) ⌝ }
+    ensures { λ _. ⌜ Changed (lift (command.plainCommand c)) (now (s .entry)) (now (s .exit)) ⌝ }
 {
     match c {
         0x20..=0x3F => put_named_cell(s, c),
@@ -439,7 +445,7 @@ fn has_code(s: &State) -> bool
 
 // A4h: is there a lock code?
 fn ask_code(s: &mut State)
-    ensures { λ _. ⌜ view (now (s .exit)) ≡ command.codeAsked (view (now (s .entry))) ⌝ }
+    ensures { λ _. ⌜ Changed command.codeAsked (now (s .entry)) (now (s .exit)) ⌝ }
 {
     if has_code(s) {
         put(s, 0xFA);
@@ -450,7 +456,7 @@ fn ask_code(s: &mut State)
 
 // Locked, with nothing typed yet.
 fn close(s: &mut State)
-    ensures { λ _. ⌜ view (now (s .exit)) ≡ command.closed (view (now (s .entry))) ⌝ }
+    ensures { λ _. ⌜ Changed command.closed (now (s .entry)) (now (s .exit)) ⌝ }
 {
     sized(*s);
     let flags = s[FLAGS];
@@ -460,7 +466,7 @@ fn close(s: &mut State)
 
 // A6h: locked, where there is a code.
 fn lock_up(s: &mut State)
-    ensures { λ _. ⌜ view (now (s .exit)) ≡ command.lockedUp (view (now (s .entry))) ⌝ }
+    ensures { λ _. ⌜ Changed command.lockedUp (now (s .entry)) (now (s .exit)) ⌝ }
 {
     if has_code(s) {
         close(s);
@@ -469,7 +475,7 @@ fn lock_up(s: &mut State)
 }
 
 fn act(s: &mut State, c: u8)
-    ensures { λ _. ⌜ view (now (s .exit)) ≡ command.acts c (view (now (s .entry))) ⌝ }
+    ensures { λ _. ⌜ Changed (command.acts c) (now (s .entry)) (now (s .exit)) ⌝ }
 {
     match c {
         0xA4 => ask_code(s),
@@ -479,9 +485,9 @@ fn act(s: &mut State, c: u8)
     }
 }
 
-// Port 64h written.
-pub fn write_command(s: &mut State, c: u8)
-    ensures { λ _. ⌜ view (now (s .exit)) ≡ command.writeCommand c (view (now (s .entry))) ⌝ }
+// What the command does.
+fn write_command(s: &mut State, c: u8)
+    ensures { λ _. ⌜ Changed (command.writeCommand c) (now (s .entry)) (now (s .exit)) ⌝ }
 {
     cut_load(s);
     command_written(s, c);
@@ -489,12 +495,28 @@ pub fn write_command(s: &mut State, c: u8)
 }
 
 // The lines of the output port that a command pulses, as a mask.
-pub fn pulse_of(c: u16) -> u8
+fn pulse_of(c: u8) -> u8
     ensures { λ r. ⌜ r ≡ command.pulseOf c ⌝ }
 {
     if 0xF0 <= c {
         nibble(c / 1 % 2 != 1, c / 2 % 2 != 1, false, false)
     } else {
         0
+    }
+}
+
+pub fn command_event(s: &mut State, low: u8, high: u8) -> Told
+    ensures { λ r. ⌜ EventTold (now (s .entry)) (event 3 low high) (now (s .exit)) r ⌝ }
+{
+    let number = write_refusal(s, low, high);
+    if number != 0 {
+        return quiet(number);
+    }
+    write_command(s, low);
+    Told {
+        refusal: 0,
+        read: 0,
+        old: 0,
+        pulse: pulse_of(low),
     }
 }

@@ -1,9 +1,12 @@
-// A byte written to port 60h: what it does goes by the pending code.
-use crate::lines::enable_keyboard;
-use crate::lines::put;
-use crate::lines::put_mouse;
-use crate::lines::set_mode;
+// Kind 1, a byte written to port 60h: what it does goes by the pending code.
+use crate::checks::write_refusal;
+use crate::mode::enable_keyboard;
+use crate::mode::set_mode;
+use machine::events::Told;
+use machine::events::quiet;
 use machine::flags::with_command;
+use machine::lines::put;
+use machine::lines::put_mouse;
 use machine::state::CELL;
 use machine::state::CODE;
 use machine::state::FLAGS;
@@ -15,19 +18,20 @@ use machine::state::SENT;
 use machine::state::SENT_TO;
 use machine::state::State;
 use machine::state::sized;
-ghost use mathlib.Core.Path.{_≡_};
 ghost use Prim.Native.Nat.{_<_};
 ghost use lib.ListN.{getD};
 ghost use Rattle.machine.specs.State.{lift};
 ghost use Rattle.machine.specs.DataPort as port;
-ghost use Rattle.machine.specs.View.{public, view};
+ghost use Rattle.machine.specs.Events.{event};
+ghost use Rattle.machine.specs.Changed.{Changed};
+ghost use Rattle.machine.specs.Told.{EventTold};
 
 // A load takes this many code bytes.
 const CODE_MOST: u8 = 16;
 
 // No pending code.
-pub fn settle(s: &mut State)
-    ensures { λ _. ⌜ view (now (s .exit)) ≡ lift port.settled (view (now (s .entry))) ⌝ }
+fn settle(s: &mut State)
+    ensures { λ _. ⌜ Changed (lift port.settled) (now (s .entry)) (now (s .exit)) ⌝ }
 {
     sized(*s);
     s[PENDING] = 0;
@@ -36,7 +40,7 @@ pub fn settle(s: &mut State)
 
 // The command flag falls.
 fn data_written(s: &mut State)
-    ensures { λ _. ⌜ view (now (s .exit)) ≡ lift port.dataWritten (view (now (s .entry))) ⌝ }
+    ensures { λ _. ⌜ Changed (lift port.dataWritten) (now (s .entry)) (now (s .exit)) ⌝ }
 {
     sized(*s);
     let flags = s[FLAGS];
@@ -44,8 +48,8 @@ fn data_written(s: &mut State)
 }
 
 // A byte handed to the transmitter.
-pub fn send(s: &mut State, to: u8, byte: u8)
-    ensures { λ _. ⌜ view (now (s .exit)) ≡ lift (port.send to byte) (view (now (s .entry))) ⌝ }
+fn send(s: &mut State, to: u8, byte: u8)
+    ensures { λ _. ⌜ Changed (lift (port.send to byte)) (now (s .entry)) (now (s .exit)) ⌝ }
 {
     sized(*s);
     s[SENT_TO] = to;
@@ -54,21 +58,21 @@ pub fn send(s: &mut State, to: u8, byte: u8)
 
 // A byte to the keyboard, which is no longer off.
 fn send_keyboard(s: &mut State, byte: u8)
-    ensures { λ _. ⌜ view (now (s .exit)) ≡ lift (port.sendKeyboard byte) (view (now (s .entry))) ⌝ }
+    ensures { λ _. ⌜ Changed (lift (port.sendKeyboard byte)) (now (s .entry)) (now (s .exit)) ⌝ }
 {
     enable_keyboard(s);
     send(s, 1, byte);
 }
 
 fn latch(s: &mut State, v: u8)
-    ensures { λ _. ⌜ view (now (s .exit)) ≡ lift (port.latched v) (view (now (s .entry))) ⌝ }
+    ensures { λ _. ⌜ Changed (lift (port.latched v)) (now (s .entry)) (now (s .exit)) ⌝ }
 {
     sized(*s);
-    s[LATCHES] = v;
+    s[LATCHES] = v % 4;
 }
 
 fn write_cell(s: &mut State, v: u8)
-    ensures { λ _. ⌜ view (now (s .exit)) ≡ lift (port.cellWritten v) (view (now (s .entry))) ⌝ }
+    ensures { λ _. ⌜ Changed (lift (port.cellWritten v)) (now (s .entry)) (now (s .exit)) ⌝ }
 {
     sized(*s);
     let k = s[CELL];
@@ -80,7 +84,7 @@ fn write_cell(s: &mut State, v: u8)
 
 // The pending codes that concern the public part alone.
 fn plain_data(s: &mut State, v: u8)
-    ensures { λ _. ⌜ view (now (s .exit)) ≡ lift (port.plainData v) (view (now (s .entry))) ⌝ }
+    ensures { λ _. ⌜ Changed (lift (port.plainData v)) (now (s .entry)) (now (s .exit)) ⌝ }
 {
     let pending = s[PENDING];
     match pending {
@@ -94,18 +98,23 @@ fn plain_data(s: &mut State, v: u8)
     }
 }
 
-// No lock code.
-pub fn drop_code(s: &mut State)
-    ensures { λ _. ⌜ view (now (s .exit)) ≡ port.dropped (view (now (s .entry))) ⌝ }
+// No lock code, and no byte of it left.
+pub(crate) fn drop_code(s: &mut State)
+    ensures { λ _. ⌜ Changed port.dropped (now (s .entry)) (now (s .exit)) ⌝ }
 {
     sized(*s);
+    let mut i = CODE;
+    while i < RAM {
+        s[i] = 0;
+        i += 1;
+    }
     s[LENGTH] = 0;
 }
 
 // One more byte of the lock code, of which there are at most fifteen.
 fn append(s: &mut State, v: u8)
     requires { ⌜ getD (now s) 10 0 < 16 ⌝ }
-    ensures { λ _. ⌜ view (now (s .exit)) ≡ port.appended v (view (now (s .entry))) ⌝ }
+    ensures { λ _. ⌜ Changed (port.appended v) (now (s .entry)) (now (s .exit)) ⌝ }
 {
     sized(*s);
     let n = s[LENGTH];
@@ -116,7 +125,7 @@ fn append(s: &mut State, v: u8)
 
 // A byte of a load: 0 ends it, and so does a byte past the sixteenth, which leaves no code.
 fn load_byte(s: &mut State, v: u8)
-    ensures { λ _. ⌜ view (now (s .exit)) ≡ port.loadByte v (view (now (s .entry))) ⌝ }
+    ensures { λ _. ⌜ Changed (port.loadByte v) (now (s .entry)) (now (s .exit)) ⌝ }
 {
     sized(*s);
     if v == 0 {
@@ -131,9 +140,9 @@ fn load_byte(s: &mut State, v: u8)
     append(s, v);
 }
 
-// Port 60h written.
-pub fn write_data(s: &mut State, v: u8)
-    ensures { λ _. ⌜ view (now (s .exit)) ≡ port.writeData v (view (now (s .entry))) ⌝ }
+// What the byte does.
+fn write_data(s: &mut State, v: u8)
+    ensures { λ _. ⌜ Changed (port.writeData v) (now (s .entry)) (now (s .exit)) ⌝ }
 {
     let pending = s[PENDING];
     data_written(s);
@@ -143,4 +152,15 @@ pub fn write_data(s: &mut State, v: u8)
         plain_data(s, v);
         settle(s);
     }
+}
+
+pub fn data_event(s: &mut State, low: u8, high: u8) -> Told
+    ensures { λ r. ⌜ EventTold (now (s .entry)) (event 1 low high) (now (s .exit)) r ⌝ }
+{
+    let number = write_refusal(s, low, high);
+    if number != 0 {
+        return quiet(number);
+    }
+    write_data(s, low);
+    quiet(0)
 }

@@ -1,4 +1,6 @@
-// What the host sees and does: status and output port, port 60h written, port 64h written.
+// The host's side: the kinds 0 to 3, each a whole event with its checks.
+pub mod checks;
 pub mod commands;
 pub mod data_port;
-pub mod lines;
+mod mode;
+pub mod reads;

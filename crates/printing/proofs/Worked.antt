@@ -15,7 +15,8 @@ use Rattle.printing.specs.Page.{header, refusedLength, answered, page}
 -- rf rd old st p2 pu to fl fh
 abbrev head : List ℕ
 head =
-    114 ∷ 102 ∷ 32 ∷ 114 ∷ 100 ∷ 32 ∷ 111 ∷ 108 ∷ 100 ∷ 32 ∷ 115 ∷ 116 ∷ 32 ∷ 112 ∷ 50 ∷ 32 ∷ 112 ∷ 117 ∷ 32 ∷ 116 ∷ 111 ∷ 32 ∷ 102 ∷ 108 ∷ 32 ∷ 102 ∷ 104 ∷ 10 ∷ []
+    114 ∷ 102 ∷ 32 ∷ 114 ∷ 100 ∷ 32 ∷ 111 ∷ 108 ∷ 100 ∷ 32 ∷ 115 ∷ 116 ∷ 32 ∷ 112 ∷ 50 ∷ 32 ∷ 112 ∷ 117 ∷ 32
+    ∷ 116 ∷ 111 ∷ 32 ∷ 102 ∷ 108 ∷ 32 ∷ 102 ∷ 104 ∷ 10 ∷ []
 
 -- 00 00 00 1D 03 00 00 00 00
 abbrev first : List ℕ
@@ -38,5 +39,7 @@ fourth =
     48 ∷ 48 ∷ 32 ∷ 53 ∷ 53 ∷ 32 ∷ 48 ∷ 49 ∷ 32 ∷ 49 ∷ 67 ∷ 32 ∷ 48 ∷ 51 ∷ 32 ∷ 48 ∷ 48 ∷ 32 ∷ 48 ∷ 48 ∷ 32 ∷ 48 ∷ 48 ∷ 32 ∷ 48 ∷ 48 ∷ 10 ∷ []
 
 pub page-worked : page (0x03 ∷ 0xAA ∷ 0 ∷ 0x02 ∷ 0 ∷ 0 ∷ 0 ∷ 0 ∷ 0 ∷ 0 ∷ 0 ∷ 0 ∷ []) ≡ head ++ first ++ second ++ third ++ fourth
-unfolding page refusedLength lengthRefusal header answered answers events fresh step refusal stateRefusal accept writeCommand acts loadCut pendingOf plainCommand putCell pulseOf reply levels nibble highNibble status outputPort lines line spaced hexByte hexDigit
+unfolding page refusedLength lengthRefusal header answered answers events fresh
+    step refusal stateRefusal accept writeCommand acts loadCut pendingOf plainCommand putCell pulseOf
+    reply levels nibble highNibble status outputPort lines line spaced hexByte hexDigit
 page-worked = refl

@@ -1,5 +1,6 @@
 // The whole text of a list: the header and a line an event, or the refusal.
 use crate::lines::write_lines;
+use controller::run::list_refusal;
 use controller::run::run_fresh;
 ghost use mathlib.Core.Path.{_≡_};
 ghost use mathlib.Core.List.{_++_};
@@ -8,17 +9,11 @@ ghost use lib.ListN.{length};
 ghost use Rattle.printing.specs.Lines.{lines};
 ghost use Rattle.printing.specs.Page.{header, refusedText, refusedLength, over, Written, Printed};
 
-// The longest list that is run, in bytes.
-const LIST_MOST: usize = 21000;
-
 // Check 7 of a list of so many bytes.
 fn is_refused(length: usize) -> bool
     ensures { λ r. ⌜ r ≡ refusedLength length ⌝ }
 {
-    if length % 3 != 0 {
-        return true;
-    }
-    LIST_MOST < length
+    list_refusal(length, 0) == 7
 }
 
 // What is printed of a refused list.

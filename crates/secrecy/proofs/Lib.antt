@@ -1,4 +1,3 @@
-pub mod Alike
 pub mod Paired
 pub mod Compared
 mod Example

@@ -5,20 +5,22 @@ use mathlib.Core.List.{List}
 use lib.ListN.{length, take}
 use Rattle.machine.specs.State.{fresh}
 use Rattle.machine.specs.Run.{events, filled, fitting}
-use Rattle.controller.specs.Done.{RanFresh}
+use Rattle.controller.specs.Promises.{FreshRun}
 use Rattle.secrecy.specs.Paired.{Paired}
 use Rattle.secrecy.specs.declared.compare.Numbers.{Numbers}
 
 -- Two lists run by whole calls. Paired lists of one length, given buffers of one length, are refused by the same number, or the answers
 -- written are the same.
-pub record Compared (xs s s′ ys t t′ : List ℕ) (r : Numbers) : Type 0 where
-  pub one : RanFresh xs s s′ (r .first)
-  pub other : RanFresh ys t t′ (r .second)
+pub record ListsCompared (xs s s′ ys t t′ : List ℕ) (r : Numbers) : Type 0 where
+  pub one : FreshRun xs s s′ (r .first)
+  pub other : FreshRun ys t t′ (r .second)
   pub numbers : length xs ≡ length ys → length s ≡ length t → r .first ≡ r .second
-  pub answers : Paired (events xs) (events ys) → length xs ≡ length ys → length s ≡ length t → r .first ≡ 0 → take (9 * length (events xs)) s′ ≡ take (9 * length (events xs)) t′
+  pub answers : Paired fresh (events xs) (events ys) → length xs ≡ length ys → length s ≡ length t → r .first ≡ 0
+      → take (9 * length (events xs)) s′ ≡ take (9 * length (events xs)) t′
 
 -- Two lists of any length, run as far as the buffers have room.
-pub record ComparedRest (xs s s′ ys t t′ : List ℕ) : Type 0 where
+pub record FittingCompared (xs s s′ ys t t′ : List ℕ) : Type 0 where
   pub one : s′ ≡ filled fresh (fitting xs s) s
   pub other : t′ ≡ filled fresh (fitting ys t) t
-  pub answers : Paired (events xs) (events ys) → length s ≡ length t → take (9 * length (fitting xs s)) s′ ≡ take (9 * length (fitting xs s)) t′
+  pub answers : Paired fresh (events xs) (events ys) → length s ≡ length t
+      → take (9 * length (fitting xs s)) s′ ≡ take (9 * length (fitting xs s)) t′

@@ -1,4 +1,4 @@
--- "Two lists compared": the pairs of event lists that demand 3 is about, said of the machine alone.
+-- "Two lists compared": the pairs of event lists that demand 3 is about, said of the machine alone. Both run from one machine, any machine.
 use Prim.Native.Nat.{ℕ, suc, _≤_, _<_}
 use mathlib.Core.Path.{_≡_}
 use mathlib.Core.Bool.{Bool, true, not, _&&_}
@@ -6,7 +6,7 @@ use mathlib.Core.List.{List}
 use mathlib.Core.Option.{some}
 use lib.ListN.{length, take, getElem?}
 use Rattle.translation.specs.Frames.{check, sound}
-use Rattle.machine.specs.State.{Machine, fresh}
+use Rattle.machine.specs.State.{Machine}
 use Rattle.machine.specs.Events.{Event, value}
 use Rattle.machine.specs.Run.{after}
 
@@ -14,9 +14,9 @@ use Rattle.machine.specs.Run.{after}
 abbrev pub At : List Event → ℕ → Event → Type 0
 At es k e = getElem? es k ≡ some e
 
--- What holds at place k: the machine that the events before it leave, from fresh on.
-abbrev pub before : List Event → ℕ → Machine
-before es k = after fresh (take k es)
+-- What holds at place k: the machine that the events before it leave, run from m.
+abbrev pub before : Machine → List Event → ℕ → Machine
+before m es k = after m (take k es)
 
 -- kind 1 with a value from 01h to FFh
 pub record CodeByte (e : Event) : Type 0 where
@@ -39,11 +39,11 @@ pub data Allowed (m : Machine) (e f : Event) : Type 0 where
   trying : m .plain .locked ≡ true → Key e → Key f → Allowed m e f
 
 -- The lock opens at place k: locked before this list's own event there, and no longer locked after it.
-abbrev pub opens : List Event → ℕ → Bool
-opens es k = before es k .plain .locked && not (before es (suc k) .plain .locked)
+abbrev pub opens : Machine → List Event → ℕ → Bool
+opens m es k = before m es k .plain .locked && not (before m es (suc k) .plain .locked)
 
 -- Paired lists have one length, whatever it is. The first says what holds at a place; each says itself where its lock opens.
-pub record Paired (es fs : List Event) : Type 0 where
+pub record Paired (m : Machine) (es fs : List Event) : Type 0 where
   pub lengths : length es ≡ length fs
-  pub differ : (k : ℕ) (e f : Event) → At es k e → At fs k f → Allowed (before es k) e f
-  pub openings : (k : ℕ) → k < length es → opens es k ≡ opens fs k
+  pub differ : (k : ℕ) (e f : Event) → At es k e → At fs k f → Allowed (before m es k) e f
+  pub openings : (k : ℕ) → k < length es → opens m es k ≡ opens m fs k

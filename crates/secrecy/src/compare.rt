@@ -2,7 +2,7 @@
 use controller::run::run_fitting;
 use controller::run::run_fresh;
 use machine::state::start;
-ghost use Rattle.secrecy.specs.Compared.{Compared, ComparedRest};
+ghost use Rattle.secrecy.specs.Compared.{ListsCompared, FittingCompared};
 
 // The refusal numbers of the two calls.
 pub struct Numbers {
@@ -12,7 +12,7 @@ pub struct Numbers {
 
 // Each list by a whole call.
 pub fn run_both(one: &[u8], answers: &mut [u8], other: &[u8], others: &mut [u8]) -> Numbers
-    ensures { λ r. ⌜ Compared (now (one .entry)) (now (answers .entry)) (now (answers .exit)) (now (other .entry)) (now (others .entry)) (now (others .exit)) r ⌝ }
+    ensures { λ r. ⌜ ListsCompared (now (one .entry)) (now (answers .entry)) (now (answers .exit)) (now (other .entry)) (now (others .entry)) (now (others .exit)) r ⌝ }
 {
     let first = run_fresh(one, answers);
     let second = run_fresh(other, others);
@@ -21,7 +21,7 @@ pub fn run_both(one: &[u8], answers: &mut [u8], other: &[u8], others: &mut [u8])
 
 // Each list event by event, whatever its length.
 pub fn run_both_fitting(one: &[u8], answers: &mut [u8], other: &[u8], others: &mut [u8])
-    ensures { λ _. ⌜ ComparedRest (now (one .entry)) (now (answers .entry)) (now (answers .exit)) (now (other .entry)) (now (others .entry)) (now (others .exit)) ⌝ }
+    ensures { λ _. ⌜ FittingCompared (now (one .entry)) (now (answers .entry)) (now (answers .exit)) (now (other .entry)) (now (others .entry)) (now (others .exit)) ⌝ }
 {
     let mut s = start();
     run_fitting(&mut s, one, answers);

@@ -11,7 +11,7 @@ use lib.ListN.{length, getD, take, drop, length-take, List·getD-eq-default}
 use lib.Seq.{getD-take, getD-drop}
 use lib.Dec.{eqb, ltb}
 use borrow.Author.Tests.{eq-eqb, ne-eqb, eqb-true, eqb-false, ltb-true, ltb-false}
-use Rattle.translation.specs.ScanCodes.{rows, builtIn, from, count, eachOnce, permutes, Permutation, Yielded, nothing, byte, code, translate, raw}
+use Rattle.translation.specs.ScanCodes.{rows, builtIn, from, count, eachOnce, permutes, Permutation, nothing, byte, code, translate, raw}
 use Rattle.translation.proofs.Tests.{split, and-true, every-below}
 
 -- translate
@@ -183,7 +183,8 @@ module _ (n : ℕ) (t : List ℕ) (passed : eachOnce (from 1 n) (entries n t) �
   unique j k lowj highj lowk highk e =
       let w : (1 ≤ getD t k 0) × (getD t k 0 ≤ n) = within k lowk highk in
       let same : j - 1 ≡ k - 1 =
-      count-once (entries n t) (getD t k 0) (j - 1) (k - 1) (omega (arith, once (getD t k 0) (w .0) (w .1))) (omega (arith, long)) (omega (arith, long)) (entry j lowj highj ∙ e) (entry k lowk highk) in
+      count-once (entries n t) (getD t k 0) (j - 1) (k - 1) (omega (arith, once (getD t k 0) (w .0) (w .1)))
+      (omega (arith, long)) (omega (arith, long)) (entry j lowj highj ∙ e) (entry k lowk highk) in
       omega arith
 
 pub permutation : (t : List ℕ) → permutes t ≡ true → Permutation t

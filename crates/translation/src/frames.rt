@@ -45,7 +45,7 @@ pub fn judge(f: u16) -> Verdict
 }
 
 // The frame of a byte.
-pub fn framed(byte: u8) -> u16
+pub fn frame_of(byte: u8) -> u16
     ensures { λ r. ⌜ r ≡ frame byte ⌝ }
 {
     let data = 2 * (byte as u16);

@@ -1,177 +1,247 @@
--- Laws of the definitions in specs/Run: a list of bytes as events, the answers' lengths, and the buffer that is handed on.
--- Assumes nothing.
-use Prim.Native.Nat.{ℕ, zero, suc, _+_, _*_, _-_, _/_, _%_, _≤_, _<_}
-use mathlib.Core.Path.{_≡_, refl, ap, sym, subst, _∙_}
+-- From runs of parts of a list to the run of the whole, and to the promises of the calls. Assumes nothing.
+use Prim.Native.Nat.{ℕ, _+_, _*_, _-_, _≤_, _<_}
+use mathlib.Core.Path.{_≡_, refl, ap, ap₂, sym, subst, _∙_}
 use mathlib.Core.List.{List, [], _∷_, _++_, append-assoc, append-nil}
+use mathlib.Core.Bool.{true, _&&_}
 use native.Mathlib.Omega.{arith}
-use native.Mathlib.Nat.{not-suc-le-zero}
-use lib.ListN.{length, getD, take, drop, length-append, length-drop, drop-of-length-le}
-use lib.Seq.{take-nil, take-at, drop-at, drop-drop, take-all}
+use lib.Dec.{leb}
+use borrow.Author.Tests.{leb-true}
+use Rattle.translation.proofs.Tests.{and-true}
+use lib.ListN.{length, set, take, drop, length-drop, length-append, length-take, drop-of-length-le, take-append-drop}
+use lib.Seq.{take-at, drop-at, drop-drop, take-append-add}
 use Rattle.machine.specs.State.{Machine, fresh}
-use Rattle.machine.specs.Events.{Event, step, answer, reply, lines, refusal}
-use Rattle.machine.specs.Run.{events, first, after, answers, filled, fitting, lengthRefusal, listRefusal}
+use Rattle.machine.specs.Events.{Event, event, refusal, step, answer, standing}
+use Rattle.machine.specs.Run.{events, first, after, answers, filled, fitting, listRefusal}
 use Rattle.machine.specs.Kept.{Kept}
-use Rattle.machine.specs.View.{view}
-use Rattle.controller.specs.Done.{Responded, Went, Ran, RanFresh}
-use Rattle.machine.proofs.Laws.Cond.{cond-both, cond-zero}
-use lib.Dec.{eqb, ltb}
-use mathlib.Core.Bool.{not, _||_}
-use borrow.Author.Tests.{ltb-false}
+use Rattle.machine.specs.View.{view, public, body}
+use Rattle.machine.specs.Changed.{Changed}
+use Rattle.machine.proofs.Laws.Events.{reply-refused, refusal-kind}
+use Rattle.machine.proofs.Laws.Kept.{keeps}
+use Rattle.machine.proofs.Laws.Changed.{chain, by-rule, untouched}
+use Rattle.machine.proofs.Laws.Lists.{take-rest, handed, handed-back}
+use Rattle.machine.proofs.Laws.Run.{length-answer, length-answers, after-kept, after-append}
+use Rattle.machine.proofs.Laws.Run.{fitting-short, fitting-tight, fitting-more, fitting-all, fitting-piece, fitting-split, length-piece}
+use Rattle.machine.proofs.Laws.Run.{filled-none, filled-parts, filled-more, filled-append}
+use Rattle.controller.specs.Promises.{EventAnswered, FittingRun, ListRun, FreshRun}
+use Rattle.controller.specs.Steps.{EventWritten, PieceRun}
 
--- ---- events
-pub events-none : (xs : List ℕ) → length xs < 3 → events xs ≡ []
-unfolding events
-events-none [] h = refl
-events-none (k ∷ []) h = refl
-events-none (k ∷ l ∷ []) h = refl
-events-none (k ∷ l ∷ h ∷ rest) small = absurd (omega arith)
+-- ---- FittingRun: a change by the events that fit, and the buffer
+fitting-run : {s s′ list space space′ : List ℕ} → Changed (λ m. after m (fitting list space)) s s′ → space′ ≡ filled (view s) (fitting list space) space →
+    FittingRun s list space s′ space′
+fitting-run {s} {s′} {list} {space} change buffer =
+    record {
+      machine = change .machine;
+      bytes = λ b. change .bytes b ∙ ap body (change .machine);
+      buffer = buffer;
+      kept = λ k. subst Kept (sym (change .machine)) (after-kept (view s) (fitting list space) k);
+    }
 
-pub events-more : (xs : List ℕ) → 3 ≤ length xs → events xs ≡ first xs ∷ events (drop 3 xs)
-unfolding events
-events-more [] h = absurd (omega arith)
-events-more (k ∷ []) h = absurd (omega arith)
-events-more (k ∷ l ∷ []) h = absurd (omega arith)
-events-more (k ∷ l ∷ h ∷ rest) enough = refl
+run-change : {s s′ list space space′ : List ℕ} → FittingRun s list space s′ space′ → Changed (λ m. after m (fitting list space)) s s′
+run-change run = record { machine = run .machine; bytes = λ b. run .bytes b ∙ ap body (sym (run .machine)) }
 
--- ---- answer, answers
-pub length-answer : (m : Machine) (e : Event) → length (answer m e) ≡ 9
-unfolding reply lines
-length-answer m e = cond-both (λ (xs : List ℕ). length xs ≡ 9) (eqb (refusal (m .plain) e) 0) refl refl
-
--- ---- fitting
-pub fitting-short : (list space : List ℕ) → length list < 3 → fitting list space ≡ []
-fitting-short list space h = rw (events-none list h) (take-nil (length space / 9))
-
-pub fitting-tight : (list space : List ℕ) → length space < 9 → fitting list space ≡ []
-fitting-tight list space h =
-    let none : length space / 9 ≡ 0 = omega arith in
-    ap (λ (n : ℕ). take n (events list)) none
-
-pub fitting-more : (list space : List ℕ) → 3 ≤ length list → 9 ≤ length space → fitting list space ≡ first list ∷ fitting (drop 3 list) (drop 9 space)
-fitting-more list space h room =
-    let one : length space / 9 ≡ suc ((length space - 9) / 9) = omega arith in
-    rw (events-more list h, one, length-drop 9 space)
-
--- ---- filled
-pub filled-none : (m : Machine) (space : List ℕ) → filled m [] space ≡ space
-unfolding filled answers
-filled-none m space = refl
-
-pub filled-more : (m : Machine) (e : Event) (es : List Event) (space : List ℕ) → answer m e ++ filled (step m e) es (drop 9 space) ≡ filled m (e ∷ es) space
-unfolding filled answers
-filled-more m e es space =
-    let far : 9 + 9 * length es ≡ 9 * suc (length es) = omega arith in
-    sym (append-assoc (answer m e) (answers (step m e) es) (drop (9 * length es) (drop 9 space)))
-    ∙ ap (λ (xs : List ℕ). (answer m e ++ answers (step m e) es) ++ xs) (drop-drop (9 * length es) 9 space ∙ ap (λ (n : ℕ). drop n space) far)
-
--- ---- after
-after-more : (m : Machine) (e : Event) (es : List Event) → after (step m e) es ≡ after m (e ∷ es)
+-- nothing fits
+run-none : {s list space : List ℕ} → fitting list space ≡ [] → FittingRun s list space s space
 unfolding after
-after-more m e es = refl
+run-none {s} {list} {space} none = fitting-run (untouched (rw none)) (rw none (sym (filled-none (view s) space)))
 
--- ---- the buffer after an answer was written at its front, and the rest lent on and handed back as ys
-module _ (a space : List ℕ) (nine : length a ≡ 9) where
-  pub rest-of : drop 9 (a ++ drop 9 space) ≡ drop 9 space
-  rest-of = drop-at a (drop 9 space) 9 nine
+-- one event, and what the rest makes of the buffer behind its answer
+rest-of : {s n mid : List ℕ} {e : Event} (space : List ℕ) → EventWritten s e space n mid → drop 9 mid ≡ drop 9 space
+rest-of {s} {e = e} space one = ap (drop 9) (one .buffer) ∙ drop-at (answer (view s) e) (drop 9 space) 9 (length-answer (view s) e)
 
-  pub handed-back : (ys : List ℕ) → take 9 (a ++ drop 9 space) ++ (ys ++ drop (length (a ++ drop 9 space) - 9) (drop 9 (a ++ drop 9 space))) ≡ a ++ ys
-  handed-back ys =
-      let end : length (drop 9 (a ++ drop 9 space)) ≤ length (a ++ drop 9 space) - 9 = simp length-drop (omega arith) in
-      rw (take-at a (drop 9 space) 9 nine, drop-of-length-le (drop 9 (a ++ drop 9 space)) end, append-nil ys)
+module _ {s n list space mid : List ℕ} (h : 3 ≤ length list) (room : 9 ≤ length space) (one : EventWritten s (first list) space n mid) where
+  run-more : {r ys : List ℕ} → FittingRun n (drop 3 list) (drop 9 mid) r ys → FittingRun s list space r (take 9 mid ++ ys)
+  unfolding after
+  run-more {r} {ys} more =
+      let e = first list in
+      let m = view s in
+      let rest = rest-of space one in
+      let es = fitting (drop 3 list) (drop 9 space) in
+      let all = fitting-more list space h room in
+      let same : fitting (drop 3 list) (drop 9 mid) ≡ es = ap (fitting (drop 3 list)) rest in
+      fitting-run
+      (by-rule (chain (one .change) (run-change more)) (ap (after (step m e)) same ∙ ap (after m) (sym all)))
+      (ap₂ (λ (a b : List ℕ). a ++ b) (ap (take 9) (one .buffer) ∙ take-at (answer m e) (drop 9 space) 9 (length-answer m e))
+      (more .buffer ∙ ap (λ (fs : List Event). filled (view n) fs (drop 9 mid)) same ∙ ap (filled (view n) es) rest
+      ∙ ap (λ (k : Machine). filled k es (drop 9 space)) (one .change .machine))
+      ∙ filled-more m e es space ∙ ap (λ (fs : List Event). filled m fs space) (sym all))
 
--- a part that goes to the end is the rest
-part-all : (k : ℕ) (xs : List ℕ) → take (length xs - k) (drop k xs) ≡ drop k xs
-part-all k xs = take-all (length xs - k) (drop k xs) (simp length-drop (omega arith))
+  -- nothing fits behind it
+  run-last : fitting (drop 3 list) (drop 9 mid) ≡ [] → FittingRun s list space n mid
+  run-last none =
+      subst (λ (d : List ℕ). FittingRun s list space n d) (take-append-drop 9 mid) (run-more (run-none none))
 
--- ---- Went
-pub went-none : (s list space : List ℕ) → fitting list space ≡ [] → Went s list space s space
-unfolding after
-went-none s list space none =
-    record { after = rw none refl; buffer = rw none (sym (filled-none (view s) space)); kept = λ k. k }
+  pub piece-last : length list < 6 → PieceRun s list space n mid
+  piece-last short =
+      record { run = run-last (fitting-short (drop 3 list) (drop 9 mid) (simp length-drop (omega arith))); alone = λ _. one .unchanged }
 
-pub went-more : (s n list space mid : List ℕ) → 3 ≤ length list → 9 ≤ length space → Responded s (first list) space n mid → (r ys : List ℕ) → Went n (take (length list - 3) (drop 3 list)) (take (length mid - 9) (drop 9 mid)) r ys → Went s list space r (take 9 mid ++ (ys ++ drop (length mid - 9) (drop 9 mid)))
-went-more s n list space mid h room one r ys lent =
-    let more : Went n (drop 3 list) (drop 9 mid) r ys = rw (part-all 3 list, part-all 9 mid) at lent in
-    let e = first list in
+  pub piece-tight : 6 ≤ length list → length mid < 18 → PieceRun s list space n mid
+  piece-tight long tight =
+      record {
+        run = run-last (fitting-tight (drop 3 list) (drop 9 mid) (simp length-drop (omega arith)));
+        alone = λ short. absurd (omega arith);
+      }
+
+  pub piece-more : {r ys : List ℕ} → 6 ≤ length list →
+      PieceRun n (take (length list - 3) (drop 3 list)) (take (length mid - 9) (drop 9 mid)) r ys →
+      PieceRun s list space r (handed 9 mid ys)
+  piece-more {r} {ys} long lent =
+      let more : FittingRun n (drop 3 list) (drop 9 mid) r ys = rw (take-rest 3 list, take-rest 9 mid) at (lent .run) in
+      record { run = rw (handed-back 9 mid ys) (run-more more); alone = λ short. absurd (omega arith) }
+
+-- a piece of n events that all have room, and what the rest makes of the buffer behind their answers
+pub run-pieces : (n : ℕ) {s t r list space mid ys : List ℕ} → 3 * n ≤ length list → 9 * n ≤ length space →
+    FittingRun s (take (3 * n) list) space t mid →
+    FittingRun t (drop (3 * n) list) (drop (9 * n) mid) r ys →
+    FittingRun s list space r (take (9 * n) mid ++ ys)
+run-pieces n {s} {t} {r} {list} {space} {mid} {ys} some room one more =
     let m = view s in
-    let a = answer m e in
-    let nine = length-answer m e in
-    let rest : drop 9 mid ≡ drop 9 space = ap (drop 9) (one .buffer) ∙ rest-of a space nine in
-    let es = fitting (drop 3 list) (drop 9 space) in
-    let same : fitting (drop 3 list) (drop 9 mid) ≡ es = ap (fitting (drop 3 list)) rest in
-    let all = fitting-more list space h room in
+    let es = events (take (3 * n) list) in
+    let count = length-piece n list space some room in
+    let long : length (answers m es) ≡ 9 * n = length-answers m es ∙ omega (arith, count) in
+    let fits = fitting-piece n list space some room in
+    let told : mid ≡ answers m es ++ drop (9 * n) space =
+    one .buffer ∙ ap (λ (fs : List Event). filled m fs space) fits ∙ filled-parts m es space ∙ ap (λ (k : ℕ). answers m es ++ drop (9 * k) space) count in
+    let rest : drop (9 * n) mid ≡ drop (9 * n) space = ap (drop (9 * n)) told ∙ drop-at (answers m es) (drop (9 * n) space) (9 * n) long in
+    let fs = fitting (drop (3 * n) list) (drop (9 * n) space) in
+    let all = fitting-split n list space some room in
+    let same : fitting (drop (3 * n) list) (drop (9 * n) mid) ≡ fs = ap (fitting (drop (3 * n) list)) rest in
+    let step₁ : Changed (λ k. after k es) s t = by-rule (run-change one) (ap (after m) fits) in
+    fitting-run
+    (by-rule (chain step₁ (run-change more))
+    (ap (after (after m es)) same ∙ sym (after-append m es fs) ∙ ap (after m) (sym all)))
+    (ap₂ (λ (a b : List ℕ). a ++ b) (ap (take (9 * n)) told ∙ take-at (answers m es) (drop (9 * n) space) (9 * n) long)
+    (more .buffer ∙ ap (λ (gs : List Event). filled (view t) gs (drop (9 * n) mid)) same ∙ ap (filled (view t) fs) rest
+    ∙ ap (λ (k : Machine). filled k fs (drop (9 * n) space)) (step₁ .machine))
+    ∙ ap (λ (k : ℕ). answers m es ++ filled (after m es) fs (drop (9 * k) space)) (sym count)
+    ∙ sym (filled-append m es fs space)
+    ∙ ap (λ (gs : List Event). filled m gs space) (sym all))
+
+-- ---- ListRun
+pub list-refused : {s list space : List ℕ} {n : ℕ} → n ≡ listRefusal list space → (n ≡ 0 → ⊥) → ListRun s list space n s space
+list-refused {list = list} {space = space} number some =
+    let stands : listRefusal list space ≡ 0 → ⊥ = λ a. some (number ∙ a) in
     record {
-      after =
-          more .after ∙ ap (after (view n)) same ∙ ap (λ (k : Machine). after k es) (one .stepped)
-          ∙ after-more m e es ∙ ap (after m) (sym all);
-      buffer =
-          ap (λ (d : List ℕ). take 9 d ++ (ys ++ drop (length d - 9) (drop 9 d))) (one .buffer) ∙ handed-back a space nine ys
-          ∙ ap (λ (d : List ℕ). a ++ d)
-          (more .buffer ∙ ap (λ (fs : List Event). filled (view n) fs (drop 9 mid)) same ∙ ap (filled (view n) es) rest
-          ∙ ap (λ (k : Machine). filled k es (drop 9 space)) (one .stepped))
-          ∙ filled-more m e es space ∙ ap (λ (fs : List Event). filled m fs space) (sym all);
-      kept = λ k. more .kept (one .kept k);
+      refusal = number;
+      refused = λ _. (refl, refl);
+      machine = λ a. absurd (stands a);
+      bytes = λ a. absurd (stands a);
+      buffer = λ a. absurd (stands a);
+      kept = λ k. k;
     }
 
--- ---- fitting, where the call is not refused
-pub length-events : (xs : List ℕ) → length (events xs) ≡ length xs / 3
-unfolding events
-length-events [] = refl
-length-events (k ∷ []) = refl
-length-events (k ∷ l ∷ []) = refl
-length-events (k ∷ l ∷ h ∷ rest) =
-    let one : suc (suc (suc (length rest))) / 3 ≡ suc (length rest / 3) = omega arith in
-    ap suc (length-events rest) ∙ sym one
-
-pub fitting-all : (list space : List ℕ) → listRefusal list space ≡ 0 → fitting list space ≡ events list
-unfolding lengthRefusal
-fitting-all list space a =
-    let room = cond-zero (ltb (length space) (length list / 3 * 9)) 7 0 (cond-zero (not (eqb (length list % 3) 0) || ltb 21000 (length list)) 6 _ a .1) .0 in
-    let enough : length list / 3 * 9 ≤ length space = ltb-false (length space) (length list / 3 * 9) room in
-    take-all (length space / 9) (events list) (rw (length-events list) (omega arith))
-
--- ---- Ran
-module _ (s list space : List ℕ) (n : ℕ) (s′ space′ : List ℕ) where
-  pub ran-refused : (listRefusal list space ≡ 0 → ⊥) → n ≡ listRefusal list space → s′ ≡ s → space′ ≡ space → Ran s list space n s′ space′
-  ran-refused stands number state same =
-      record {
-        refusal = number;
-        refused = λ _. (state, same);
-        after = λ a. absurd (stands a);
-        buffer = λ a. absurd (stands a);
-        kept = λ k. subst (λ (t : List ℕ). Kept (view t)) (sym state) k;
-      }
-
-  pub ran-accepted : listRefusal list space ≡ 0 → n ≡ 0 → Went s list space s′ space′ → Ran s list space n s′ space′
-  ran-accepted a number went =
-      let all = fitting-all list space a in
-      record {
-        refusal = number ∙ sym a;
-        refused = λ stands. absurd (stands a);
-        after = λ _. went .after ∙ ap (after (view s)) all;
-        buffer = λ _. went .buffer ∙ ap (λ (es : List Event). filled (view s) es space) all;
-        kept = went .kept;
-      }
-
--- ---- answers
-pub length-answers : (m : Machine) (es : List Event) → length (answers m es) ≡ 9 * length es
-unfolding answers
-length-answers m [] = refl
-length-answers m (e ∷ es) =
-    let rest = length-answers (step m e) es in
-    let one = length-answer m e in
-    length-append (answer m e) (answers (step m e) es) ∙ omega arith
-
--- the answers stand at the buffer's front
-pub take-filled : (m : Machine) (es : List Event) (space : List ℕ) → take (9 * length es) (filled m es space) ≡ answers m es
-unfolding filled
-take-filled m es space = take-at (answers m es) (drop (9 * length es) space) (9 * length es) (length-answers m es)
-
--- ---- RanFresh
-pub ran-fresh : (s list space : List ℕ) (n : ℕ) (s′ space′ : List ℕ) → view s ≡ fresh → Ran s list space n s′ space′ → RanFresh list space space′ n
-ran-fresh s list space n s′ space′ start ran =
+pub list-run : {s list space s′ space′ : List ℕ} {n : ℕ} → n ≡ listRefusal list space → n ≡ 0 → FittingRun s list space s′ space′ →
+    ListRun s list space 0 s′ space′
+list-run {s} {list} {space} number none run =
+    let a : listRefusal list space ≡ 0 = sym number ∙ none in
+    let all = fitting-all list space a in
     record {
-      refusal = ran .refusal;
-      refused = λ stands. ran .refused stands .1;
-      answered = λ a. ran .buffer a ∙ ap (λ (m : Machine). filled m (events list) space) start;
+      refusal = sym a;
+      refused = λ stands. absurd (stands a);
+      machine = λ _. run .machine ∙ ap (after (view s)) all;
+      bytes = λ _ b. run .bytes b ∙ ap (λ (es : List Event). body (after (view s) es)) all;
+      buffer = λ _. run .buffer ∙ ap (λ (es : List Event). filled (view s) es space) all;
+      kept = run .kept;
     }
+
+-- ---- FreshRun
+pub fresh-run : {s list space s′ space′ : List ℕ} {n : ℕ} → view s ≡ fresh → ListRun s list space n s′ space′ → FreshRun list space space′ n
+fresh-run {s} {list} {space} start run =
+    record {
+      refusal = run .refusal;
+      refused = λ stands. run .refused stands .1;
+      answered = λ a. run .buffer a ∙ ap (λ (m : Machine). filled m (events list) space) start;
+    }
+
+-- ---- a list in pieces of 500 events
+-- The run so far, of `done` bytes of the list with `told` bytes of answers: whatever the run of the rest makes of the buffer behind them, it
+-- makes the run of the whole.
+pub record Pieced (s₀ list space₀ s space : List ℕ) (done told : ℕ) : Type 0 where
+  pub within : done ≤ length list
+  pub room : told ≤ length space
+  pub same : length space ≡ length space₀
+  pub whole : (r ys : List ℕ) → FittingRun s (drop done list) (drop told space) r ys → FittingRun s₀ list space₀ r (take told space ++ ys)
+
+pub pieced-start : {s list space : List ℕ} → Pieced s list space s space 0 0
+pieced-start = record { within = omega arith; room = omega arith; same = refl; whole = λ r ys run. run }
+
+module _ {s₀ list space₀ s space : List ℕ} {done told : ℕ} (so-far : Pieced s₀ list space₀ s space done told) where
+  -- one piece more, its parts as the loop lends them
+  pub pieced-more : {t ys : List ℕ} → 1500 ≤ length list - done → 4500 ≤ length space - told →
+      length ys ≡ length (take (length space - told) (drop told space)) →
+      FittingRun s (take (done + 1500 - done) (drop done list)) (take (length space - told) (drop told space)) t ys →
+      Pieced s₀ list space₀ t (handed told space ys) (done + 1500) (told + 4500)
+  pieced-more {t} {ys} some room kept lent =
+      let short : done + 1500 - done ≡ 1500 = omega arith in
+      let piece : FittingRun s (take 1500 (drop done list)) (drop told space) t ys = rw (short, take-rest told space) at lent in
+      let back = handed-back told space ys in
+      let front : length (take told space) ≡ told = simp length-take (omega (arith, so-far .room)) in
+      let long : length ys ≡ length space - told = kept ∙ ap length (take-rest told space) ∙ length-drop told space in
+      record {
+        within = omega (arith, some, so-far .within);
+        room = rw back (simp length-append (omega (arith, front, long, room, so-far .room)));
+        same = ap length back ∙ length-append (take told space) ys ∙ omega (arith, front, long, so-far .room, so-far .same);
+        whole = λ r zs rest.
+            let later : drop (told + 4500) (handed told space ys) ≡ drop 4500 ys =
+            ap (drop (told + 4500)) back
+            ∙ sym (drop-drop 4500 told (take told space ++ ys)) ∙ ap (drop 4500) (drop-at (take told space) ys told front) in
+            let whole-rest : FittingRun t (drop 1500 (drop done list)) (drop 4500 ys) r zs =
+            subst (λ (d : List ℕ). FittingRun t (drop 1500 (drop done list)) d r zs) later
+            (subst (λ (d : List ℕ). FittingRun t d (drop (told + 4500) (handed told space ys)) r zs) (sym (drop-drop 1500 done list)) rest) in
+            let taken : take (told + 4500) (handed told space ys) ≡ take told space ++ take 4500 ys =
+            ap (take (told + 4500)) back
+            ∙ ap (λ (n : ℕ). take (n + 4500) (take told space ++ ys)) (sym front) ∙ take-append-add (take told space) ys 4500 in
+            subst (λ (d : List ℕ). FittingRun s₀ list space₀ r d)
+            (sym (append-assoc (take told space) (take 4500 ys) zs) ∙ ap (λ (d : List ℕ). d ++ zs) (sym taken))
+            (so-far .whole r (take 4500 ys ++ zs)
+            (run-pieces 500 (simp length-drop (omega (arith, some))) (simp length-drop (omega (arith, room))) piece whole-rest));
+      }
+
+  -- nothing is left that fits
+  pieced-done : fitting (drop done list) (drop told space) ≡ [] → FittingRun s₀ list space₀ s space
+  pieced-done none =
+      subst (λ (d : List ℕ). FittingRun s₀ list space₀ s d) (take-append-drop told space) (so-far .whole s (drop told space) (run-none none))
+
+  pub pieced-short : length list - done < 3 → FittingRun s₀ list space₀ s space
+  pieced-short short = pieced-done (fitting-short (drop done list) (drop told space) (simp length-drop (omega arith)))
+
+  pub pieced-tight : length space - told < 9 → FittingRun s₀ list space₀ s space
+  pieced-tight tight = pieced-done (fitting-tight (drop done list) (drop told space) (simp length-drop (omega arith)))
+
+  -- the last piece
+  pub pieced-end : {r ys : List ℕ} → FittingRun s (take (length list - done) (drop done list)) (take (length space - told) (drop told space)) r ys →
+      FittingRun s₀ list space₀ r (handed told space ys)
+  pieced-end {r} {ys} lent =
+      let rest : FittingRun s (drop done list) (drop told space) r ys = rw (take-rest done list, take-rest told space) at lent in
+      rw (handed-back told space ys) (so-far .whole r ys rest)
+
+-- both tests of the loop
+pub both-le : (a b c d : ℕ) → (leb a b && leb c d) ≡ true → (a ≤ b) × (c ≤ d)
+both-le a b c d passed =
+    let both = and-true (leb a b) (leb c d) passed in
+    (leb-true a b (both .0), leb-true c d (both .1))
+
+-- ---- EventAnswered: a list of one event, with room for its answer alone
+pub one-answered : {s s′ answer₀ reply : List ℕ} {kind low high : ℕ} → length answer₀ ≡ 9 →
+    PieceRun s (kind ∷ low ∷ high ∷ []) answer₀ s′ reply →
+    EventAnswered s (event kind low high) s′ reply
+unfolding after answers filled events
+one-answered {s} {s′} {answer₀} {reply} {kind} {low} {high} nine piece =
+    let e = event kind low high in
+    let all : fitting (kind ∷ low ∷ high ∷ []) answer₀ ≡ e ∷ [] = rw nine refl in
+    let change : Changed (λ m. step m e) s s′ = by-rule (run-change (piece .run)) (ap (after (view s)) all) in
+    record {
+      stepped = change .machine;
+      bytes = λ b. change .bytes b ∙ ap body (change .machine);
+      answered =
+          piece .run .buffer ∙ ap (λ (es : List Event). filled (view s) es answer₀) all
+          ∙ ap₂ (λ (a b : List ℕ). a ++ b) (append-nil (answer (view s) e)) (drop-of-length-le answer₀ {i = 9} (omega arith)) ∙ append-nil (answer (view s) e);
+      unchanged = piece .alone (omega arith);
+      kept = λ k. subst Kept (sym (change .machine)) (keeps (view s) e k);
+    }
+
+-- the lines of a state: the answer to an event of no kind, without its number
+pub lines-shown : {s s′ reply : List ℕ} → EventAnswered s (event 9 0 0) s′ reply → set reply 0 0 ≡ standing (public s)
+lines-shown {s} {reply = reply} a =
+    let e = event 9 0 0 in
+    let number : 1 ≡ refusal (public s) e = sym (refusal-kind (public s) e (omega arith)) in
+    ap (λ (d : List ℕ). set d 0 0) (a .answered ∙ reply-refused (public s) e _ 1 number (λ none. omega arith))

@@ -10,11 +10,12 @@ use lib.Seq.{getD-drop}
 use lib.Dec.{eqb, leb}
 use borrow.Author.Tests.{le-leb, lt-leb, eq-eqb, leb-true, eqb-true}
 use Rattle.image.specs.Sum.{word, sum}
-use Rattle.image.specs.Layout.{bodyLength, at}
+use Rattle.machine.specs.View.{at}
+use Rattle.image.specs.Layout.{bodyLength}
 use Rattle.image.specs.Find.{trailerOf, bodyOf, marked, ends, found}
 use Rattle.translation.proofs.Tests.{and-true}
 use Rattle.image.proofs.Laws.Tests.{and-passed, and-failed, and-both, cond-true, cond-false}
-use Rattle.image.proofs.Laws.Lists.{length-part}
+use Rattle.machine.proofs.Laws.Lists.{length-part}
 
 -- ---- trailerOf, bodyOf
 pub at-trailer : (bytes : List ℕ) (k : ℕ) → at (trailerOf bytes) k ≡ getD bytes (length bytes - 8 + k) 0

@@ -2,13 +2,14 @@
 use mathlib.Core.Path.{_≡_, refl, ap, sym, _∙_}
 use mathlib.Core.Bool.{true, false}
 use mathlib.Core.List.{List}
-use Prim.Native.Nat.{ℕ}
+use Prim.Native.Nat.{ℕ, _-_, _≤_}
 use native.Mathlib.Omega.{arith}
 use lib.ListN.{length}
 use borrow.Author.Tests.{eq-eqb, ne-eqb, eqb-false}
 use Rattle.machine.specs.State.{Machine}
-use Rattle.image.specs.Layout.{bodyLength, machineOf}
-use Rattle.image.specs.Find.{ends, found}
+use Rattle.machine.specs.View.{view}
+use Rattle.image.specs.Layout.{bodyLength, imageLength}
+use Rattle.image.specs.Find.{ends, found, bodyStart}
 use Rattle.image.specs.Rules.{bodyKept}
 use Rattle.image.specs.Load.{loadRefusal, loaded}
 use Rattle.translation.proofs.Tests.{split}
@@ -19,17 +20,31 @@ use Rattle.image.proofs.Laws.Find.{ends-sealed, found-none, found-body,
 pub length-found : (bytes : List ℕ) → ends 1 bodyLength bytes ≡ true → length (found bytes) ≡ bodyLength
 length-found bytes e = ap length (found-body bytes e) ∙ length-bodyOf bodyLength bytes (ends-sealed 1 bodyLength bytes e .room)
 
--- there is a body exactly where check 10 is passed
-pub found-ends : (bytes : List ℕ) → (length (found bytes) ≡ 0 → ⊥) → ends 1 bodyLength bytes ≡ true
-found-ends bytes some =
-    split (ends 1 bodyLength bytes) (λ e. e) (λ e. absurd (some (ap length (found-none bytes e))))
+-- the bytes that were found, b: there are some exactly where check 10 is passed
+module _ (bytes : List ℕ) {b : List ℕ} (here : b ≡ found bytes) where
+  pub none-ends : length b ≡ 0 → ends 1 bodyLength bytes ≡ false
+  none-ends none =
+      split (ends 1 bodyLength bytes)
+      (λ e. absurd (omega (arith, none, ap length here, length-found bytes e)))
+      (λ e. e)
 
-pub ends-found : (bytes : List ℕ) → length (found bytes) ≡ 0 → ends 1 bodyLength bytes ≡ false
-ends-found bytes none =
-    split (ends 1 bodyLength bytes) (λ e. absurd (full e)) (λ e. e)
-  where
-    full : ends 1 bodyLength bytes ≡ true → ⊥
-    full e = let long = length-found bytes e in omega arith
+  pub bodyStart-none : length b ≡ 0 → bodyStart bytes ≡ length bytes
+  unfolding bodyStart
+  bodyStart-none none = cond-false _ _ _ (none-ends none)
+
+  module _ (some : length b ≡ 0 → ⊥) where
+    pub some-ends : ends 1 bodyLength bytes ≡ true
+    some-ends = split (ends 1 bodyLength bytes) (λ e. e) (λ e. absurd (some (ap length (here ∙ found-none bytes e))))
+
+    pub some-sixty : length b ≡ bodyLength
+    some-sixty = ap length here ∙ length-found bytes some-ends
+
+    pub some-room : imageLength ≤ length bytes
+    some-room = ends-sealed 1 bodyLength bytes some-ends .room
+
+    pub bodyStart-some : bodyStart bytes ≡ length bytes - imageLength
+    unfolding bodyStart
+    bodyStart-some = cond-true _ _ _ some-ends
 
 -- ---- loadRefusal, loaded
 module _ (m : Machine) (bytes : List ℕ) where
@@ -38,7 +53,7 @@ module _ (m : Machine) (bytes : List ℕ) where
   unfolding loaded
   loaded-refused n e some = cond-false _ _ _ (ne-eqb (loadRefusal bytes) 0 (λ z. some (sym e ∙ z)))
 
-  pub loaded-accepted : loadRefusal bytes ≡ 0 → loaded m bytes ≡ machineOf (found bytes)
+  pub loaded-accepted : loadRefusal bytes ≡ 0 → loaded m bytes ≡ view (found bytes)
   unfolding loaded
   loaded-accepted e = cond-true _ _ _ (eq-eqb (loadRefusal bytes) 0 e)
 

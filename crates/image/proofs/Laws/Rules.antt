@@ -1,5 +1,5 @@
 -- Laws of the definitions in specs/Rules. Assumes nothing.
-use mathlib.Core.Path.{_≡_, refl, ap, ap₂, _∙_}
+use mathlib.Core.Path.{_≡_, refl, ap, _∙_}
 use mathlib.Core.Bool.{Bool, true, false}
 use mathlib.Core.List.{List, [], _∷_}
 use Prim.Native.Nat.{ℕ, zero, suc, _+_, _≤_, _<_}
@@ -11,8 +11,9 @@ use lib.Dec.{eqb, leb, ltb}
 use borrow.Author.Tests.{lt-ltb, le-leb, eq-eqb, ne-eqb, ltb-true, leb-true, eqb-true, eqb-false}
 use lib.Seq.{drop-cons}
 use Rattle.translation.specs.Bits.{has}
-use Rattle.image.specs.Rules.{every, isZero, nonzero, flagsKept, latchesKept, pendingKept, overlayKept, sendingKept, codeKept, lockKept, modeKept, bodyKept}
-use Rattle.image.specs.Layout.{at}
+use Rattle.image.specs.Rules.{every, isZero, nonzero}
+use Rattle.image.specs.Rules.{flagsKept, latchesKept, pendingKept, overlayKept, sendingKept, codeKept, lockKept, modeKept, bodyKept}
+use Rattle.machine.specs.View.{at}
 use Rattle.translation.proofs.Tests.{split, and-true}
 use Rattle.image.proofs.Laws.Tests.{and-passed, and-failed, and-both, cond-shows, cond-passes}
 
@@ -33,13 +34,6 @@ pub every-zeros : (n : ℕ) → every isZero (replicate n 0) ≡ true
 unfolding every
 every-zeros zero = refl
 every-zeros (suc n) = every-zeros n
-
-pub zeros : (l : List ℕ) → every isZero l ≡ true → l ≡ replicate (length l) 0
-unfolding every
-zeros [] e = refl
-zeros (x ∷ l) e =
-    let s = and-true (isZero x) (every isZero l) e in
-    ap₂ _∷_ (eqb-true x 0 (s .0)) (zeros l (s .1))
 
 -- ---- every, from byte i on
 module _ (test : ℕ → Bool) (l : List ℕ) (i : ℕ) where

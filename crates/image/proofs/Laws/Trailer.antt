@@ -9,11 +9,13 @@ use lib.Seq.{take-at, drop-at, take-all, drop-drop}
 use lib.Dec.{eqb}
 use borrow.Author.Tests.{eqb-true}
 use Rattle.image.specs.Sum.{word, lowByte, highByte, sum}
-use Rattle.image.specs.Layout.{at, trailer}
+use Rattle.machine.specs.View.{at}
+use Rattle.image.specs.Layout.{trailer, sealed}
 use Rattle.image.specs.Find.{lastBytes, trailerOf, bodyOf, marked}
 use Rattle.translation.proofs.Tests.{and-true}
-use Rattle.image.proofs.Laws.Lists.{listed, take-listed, Below, below-drop}
+use Rattle.machine.proofs.Laws.Lists.{listed, take-listed, Below, below-drop}
 use Rattle.image.proofs.Laws.Sum.{sum-below, word-of-bytes, low-of-word, high-of-word}
+use Rattle.image.proofs.Laws.Layout.{length-sealed}
 use Rattle.image.proofs.Laws.Find.{Sealed, length-bodyOf}
 
 -- ---- lastBytes
@@ -24,24 +26,27 @@ lastBytes-append front l n h =
 
 -- ---- a body and its trailer behind other bytes
 module _ (edition n : ℕ) (front b : List ℕ) (long : length b ≡ n) where
-  length-sealed : length (b ++ trailer edition b) ≡ n + 8
-  unfolding trailer
-  length-sealed = length-append b (trailer edition b) ∙ ap (λ (k : ℕ). k + 8) long
+  abbrev bytes : List ℕ
+  bytes = front ++ sealed edition b
 
-  trailerOf-sealed : trailerOf (front ++ (b ++ trailer edition b)) ≡ trailer edition b
-  unfolding trailer
+  sealed-long : length (sealed edition b) ≡ n + 8
+  sealed-long = length-sealed edition b ∙ ap (λ (k : ℕ). k + 8) long
+
+  trailerOf-sealed : trailerOf bytes ≡ trailer edition b
+  unfolding sealed trailer
   trailerOf-sealed =
       ap trailerOf (sym (append-assoc front b (trailer edition b))) ∙ lastBytes-append (front ++ b) (trailer edition b) 8 refl
 
-  pub bodyOf-sealed : bodyOf n (front ++ (b ++ trailer edition b)) ≡ b
+  pub bodyOf-sealed : bodyOf n bytes ≡ b
+  unfolding sealed
   bodyOf-sealed =
-      ap (take n) (lastBytes-append front (b ++ trailer edition b) (n + 8) length-sealed) ∙ take-at b (trailer edition b) n long
+      ap (take n) (lastBytes-append front (sealed edition b) (n + 8) sealed-long) ∙ take-at b (trailer edition b) n long
 
-  pub sealed-trailer : n < 65536 → Sealed edition n (front ++ (b ++ trailer edition b))
+  pub sealed-trailer : n < 65536 → Sealed edition n bytes
   unfolding trailer
   sealed-trailer small =
       record {
-        room = omega (arith, length-append front (b ++ trailer edition b), length-sealed);
+        room = omega (arith, length-append front (sealed edition b), sealed-long);
         mark = ap marked trailerOf-sealed;
         number = ap (λ (t : List ℕ). at t 4) trailerOf-sealed;
         distance = ap (λ (t : List ℕ). word (at t 0) (at t 1)) trailerOf-sealed ∙ word-of-bytes (length b) (omega arith) ∙ long;
@@ -85,5 +90,6 @@ module _ (edition n : ℕ) (bytes : List ℕ) (s : Sealed edition n bytes) where
       trailerOf-listed ∙ all
 
   -- the last bytes are the body with its trailer
-  pub lastBytes-sealed : Below 256 bytes → lastBytes (n + 8) bytes ≡ bodyOf n bytes ++ trailer edition (bodyOf n bytes)
+  pub lastBytes-sealed : Below 256 bytes → lastBytes (n + 8) bytes ≡ sealed edition (bodyOf n bytes)
+  unfolding sealed
   lastBytes-sealed bound = lastBytes-parts ∙ ap (λ (r : List ℕ). bodyOf n bytes ++ r) (trailerOf-trailer bound)

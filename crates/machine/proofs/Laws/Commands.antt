@@ -1,11 +1,15 @@
 -- Laws of the definitions in specs/Commands. Assumes nothing.
-use mathlib.Core.Path.{_≡_, refl}
+use mathlib.Core.Path.{_≡_, refl, sym, _∙_}
 use mathlib.Core.Bool.{Bool, true, false, _&&_, false≢true}
-use Prim.Native.Nat.{ℕ, _-_, _%_, _≤_}
+use Prim.Native.Nat.{ℕ, _-_, _/_, _%_, _≤_, _<_}
 use native.Mathlib.Omega.{arith}
 use lib.Dec.{leb}
-use borrow.Author.Tests.{leb-true}
-use Rattle.machine.specs.Commands.{within}
+use borrow.Author.Tests.{leb-true, le-leb, lt-leb, eq-eqb, ne-eqb}
+use Rattle.machine.specs.State.{Machine, lift}
+use Rattle.machine.specs.Lines.{put, putCell, keyboardDisabled, keyboardEnabled, mouseDisabled, mouseEnabled}
+use Rattle.machine.specs.DataPort.{dropped}
+use Rattle.machine.specs.Commands.{within, loadCut, selfTested, testInputsPut, outputPortPut, namedCellPut, overlaid}
+use Rattle.machine.specs.Commands.{plainCommand, acts, hasCode, codeAsked, closed, lockedUp}
 
 -- ---- within
 and-left : (a b : Bool) → (a && b) ≡ true → a ≡ true
@@ -28,3 +32,146 @@ cell-of-20 c h = omega (arith, within-low 0x20 0x3F c h, within-high 0x20 0x3F c
 
 pub cell-of-61 : (c : ℕ) → within 0x61 0x7F c ≡ true → c % 32 ≡ c - 0x60
 cell-of-61 c h = omega (arith, within-low 0x61 0x7F c h, within-high 0x61 0x7F c h)
+
+-- ---- loadCut
+pub loadCut-load : (m : Machine) → m .plain .host .pending ≡ 3 → dropped m ≡ loadCut m
+unfolding loadCut
+loadCut-load m h = simp (eq-eqb _ _ h)
+
+pub loadCut-none : (m : Machine) → (m .plain .host .pending ≡ 3 → ⊥) → m ≡ loadCut m
+unfolding loadCut
+loadCut-none m h = simp (ne-eqb _ _ h)
+
+-- ---- plainCommand
+module _ (m : Machine) (c : ℕ) where
+  pub command-A7 : c ≡ 0xA7 → lift mouseDisabled m ≡ lift (plainCommand c) m
+  unfolding plainCommand
+  command-A7 key = simp key
+
+  pub command-A8 : c ≡ 0xA8 → lift mouseEnabled m ≡ lift (plainCommand c) m
+  unfolding plainCommand
+  command-A8 key = simp key
+
+  pub command-A9 : c ≡ 0xA9 → lift (put 0) m ≡ lift (plainCommand c) m
+  unfolding plainCommand
+  command-A9 key = simp key
+
+  pub command-AA : c ≡ 0xAA → lift selfTested m ≡ lift (plainCommand c) m
+  unfolding plainCommand
+  command-AA key = simp key
+
+  pub command-AB : c ≡ 0xAB → lift (put 0) m ≡ lift (plainCommand c) m
+  unfolding plainCommand
+  command-AB key = simp key
+
+  pub command-AD : c ≡ 0xAD → lift keyboardDisabled m ≡ lift (plainCommand c) m
+  unfolding plainCommand
+  command-AD key = simp key
+
+  pub command-AE : c ≡ 0xAE → lift keyboardEnabled m ≡ lift (plainCommand c) m
+  unfolding plainCommand
+  command-AE key = simp key
+
+  pub command-C0 : c ≡ 0xC0 → lift (λ p. put (p .ports .pins) p) m ≡ lift (plainCommand c) m
+  unfolding plainCommand
+  command-C0 key = simp key
+
+  pub command-C1 : c ≡ 0xC1 → lift (λ p. overlaid (p .ports .pins % 16) p) m ≡ lift (plainCommand c) m
+  unfolding plainCommand
+  command-C1 key = simp key
+
+  pub command-C2 : c ≡ 0xC2 → lift (λ p. overlaid (p .ports .pins / 16) p) m ≡ lift (plainCommand c) m
+  unfolding plainCommand
+  command-C2 key = simp key
+
+  pub command-D0 : c ≡ 0xD0 → lift outputPortPut m ≡ lift (plainCommand c) m
+  unfolding plainCommand
+  command-D0 key = simp key
+
+  pub command-E0 : c ≡ 0xE0 → lift testInputsPut m ≡ lift (plainCommand c) m
+  unfolding plainCommand
+  command-E0 key = simp key
+
+  pub command-cell : 0x20 ≤ c → c ≤ 0x3F → lift (namedCellPut (c % 32)) m ≡ lift (plainCommand c) m
+  unfolding plainCommand
+  command-cell low high =
+      let named : within 0x20 0x3F c ≡ true = simp (le-leb 0x20 c low, le-leb c 0x3F high) in
+      simp (named, cell-of-20 c named)
+
+-- any other does nothing
+module _
+    (m : Machine)
+    (c : ℕ)
+    (nA7 : c ≡ 0xA7 → ⊥)
+    (nA8 : c ≡ 0xA8 → ⊥)
+    (nA9 : c ≡ 0xA9 → ⊥)
+    (nAA : c ≡ 0xAA → ⊥)
+    (nAB : c ≡ 0xAB → ⊥)
+    (nAD : c ≡ 0xAD → ⊥)
+    (nAE : c ≡ 0xAE → ⊥)
+    (nC0 : c ≡ 0xC0 → ⊥)
+    (nC1 : c ≡ 0xC1 → ⊥)
+    (nC2 : c ≡ 0xC2 → ⊥)
+    (nD0 : c ≡ 0xD0 → ⊥)
+    (nE0 : c ≡ 0xE0 → ⊥)
+  where
+    command-other : within 0x20 0x3F c ≡ false → m ≡ lift (plainCommand c) m
+    unfolding plainCommand
+    command-other apart =
+        simp (
+          apart,
+          ne-eqb _ _ nA7,
+          ne-eqb _ _ nA8,
+          ne-eqb _ _ nA9,
+          ne-eqb _ _ nAA,
+          ne-eqb _ _ nAB,
+          ne-eqb _ _ nAD,
+          ne-eqb _ _ nAE,
+          ne-eqb _ _ nC0,
+          ne-eqb _ _ nC1,
+          ne-eqb _ _ nC2,
+          ne-eqb _ _ nD0,
+          ne-eqb _ _ nE0,
+        )
+
+    pub command-low : c < 0x20 → m ≡ lift (plainCommand c) m
+    command-low h = command-other (simp (lt-leb 0x20 c h))
+
+    pub command-high : 0x20 ≤ c → 0x3F < c → m ≡ lift (plainCommand c) m
+    command-high low h = command-other (simp (le-leb 0x20 c low, lt-leb c 0x3F h))
+
+-- ---- acts
+module _ (m : Machine) (c : ℕ) where
+  pub acts-A4 : c ≡ 0xA4 → codeAsked m ≡ acts c m
+  unfolding acts
+  acts-A4 key = simp key
+
+  pub acts-A5 : c ≡ 0xA5 → dropped m ≡ acts c m
+  unfolding acts
+  acts-A5 key = simp key
+
+  pub acts-A6 : c ≡ 0xA6 → lockedUp m ≡ acts c m
+  unfolding acts
+  acts-A6 key = simp key
+
+  pub acts-other : (c ≡ 0xA4 → ⊥) → (c ≡ 0xA5 → ⊥) → (c ≡ 0xA6 → ⊥) → lift (plainCommand c) m ≡ acts c m
+  unfolding acts
+  acts-other nA4 nA5 nA6 = simp (ne-eqb _ _ nA4, ne-eqb _ _ nA5, ne-eqb _ _ nA6)
+
+-- ---- codeAsked, lockedUp
+module _ (m : Machine) {has : Bool} (isHas : has ≡ hasCode m) where
+  pub codeAsked-some : has ≡ true → lift (put 0xFA) m ≡ codeAsked m
+  unfolding codeAsked
+  codeAsked-some h = simp (sym isHas ∙ h)
+
+  pub codeAsked-none : has ≡ false → lift (put 0xF1) m ≡ codeAsked m
+  unfolding codeAsked
+  codeAsked-none h = simp (sym isHas ∙ h)
+
+  pub lockedUp-some : has ≡ true → lift (putCell 0x13) (closed m) ≡ lockedUp m
+  unfolding lockedUp
+  lockedUp-some h = simp (sym isHas ∙ h)
+
+  pub lockedUp-none : has ≡ false → m ≡ lockedUp m
+  unfolding lockedUp
+  lockedUp-none h = simp (sym isHas ∙ h)

@@ -3,17 +3,18 @@
 use Prim.Native.Nat.{ℕ, _≤_, _<_}
 use native.Mathlib.Omega.{arith}
 use mathlib.Core.List.{_∷_}
-use mathlib.Core.Path.{_≡_}
-use mathlib.Core.Bool.{true, false, not, _&&_, _||_}
+use mathlib.Core.Path.{_≡_, refl, sym, _∙_}
+use mathlib.Core.Bool.{Bool, true, false, not, _&&_, _||_}
 use lib.Dec.{eqb, ltb}
-use borrow.Author.Tests.{eqb-true, eqb-false, lt-ltb, ltb-false, ne-eqb, not-true, not-false}
+use borrow.Author.Tests.{eqb-true, eqb-false, lt-ltb, le-ltb, ltb-false, ne-eqb, not-true, not-false}
 use Rattle.translation.specs.Frames.{check}
 use Rattle.machine.specs.State.{Public, Machine, lift}
 use Rattle.machine.specs.Lines.{inputFull}
 use Rattle.machine.specs.DataPort.{writeData}
 use Rattle.machine.specs.Commands.{writeCommand}
 use Rattle.machine.specs.Frames.{keyboardFrame, mouseFrame, taken, timedOut, pinned}
-use Rattle.machine.specs.Events.{Event, value, isWrite, isFrame, endsSending, limit, deviceOff, refusal, stateRefusal, emptied, accept, step, reply, refusedReply, byteRead, oldMark, pulse, lines}
+use Rattle.machine.specs.Events.{Event, event, value, valueOf, isWrite, isFrame, endsSending, limit, deviceOff, refusal, stateRefusal}
+use Rattle.machine.specs.Events.{emptied, accept, step, reply, refusedReply, byteRead, oldMark, pulse, lines}
 use Rattle.machine.proofs.Laws.Cond.{cond-zero, and-false, or-false}
 
 -- ---- refusal
@@ -66,11 +67,86 @@ module _ (p : Public) (e : Event) (a : refusal p e ≡ 0) where
   pub accepted-end : endsSending (e .kind) ≡ true → p .sending .to ≡ 0 → ⊥
   accepted-end s = eqb-false _ _ (not-true _ (not-false _ (and-false _ _ (accepted p e a .idle) s)))
 
--- ---- step
 -- a kind above 8
 pub refusal-kind : (p : Public) (e : Event) → 8 < e .kind → refusal p e ≡ 1
 unfolding refusal
 refusal-kind p e h = simp (lt-ltb 8 (e .kind) h)
+
+above-4 : (k : ℕ) → (k ≡ 0 → ⊥) → (k ≡ 1 → ⊥) → (k ≡ 2 → ⊥) → (k ≡ 3 → ⊥) → (k ≡ 4 → ⊥) → 4 < k
+above-4 k n0 n1 n2 n3 n4 = omega arith
+
+above-8 : (k : ℕ) → 4 < k → (k ≡ 5 → ⊥) → (k ≡ 6 → ⊥) → (k ≡ 7 → ⊥) → (k ≡ 8 → ⊥) → 8 < k
+above-8 k some n5 n6 n7 n8 = omega arith
+
+pub refusal-unknown : (p : Public) (kind low high : ℕ) → (kind ≡ 0 → ⊥) → (kind ≡ 1 → ⊥) → (kind ≡ 2 → ⊥) → (kind ≡ 3 → ⊥) → (kind ≡ 4 → ⊥) →
+    (kind ≡ 5 → ⊥) → (kind ≡ 6 → ⊥) → (kind ≡ 7 → ⊥) → (kind ≡ 8 → ⊥) →
+    1 ≡ refusal p (event kind low high)
+refusal-unknown p kind low high n0 n1 n2 n3 n4 n5 n6 n7 n8 =
+    sym (refusal-kind p (event kind low high) (above-8 kind (above-4 kind n0 n1 n2 n3 n4) n5 n6 n7 n8))
+
+-- a kind that is known
+pub refusal-at : (p : Public) (kind low high : ℕ) {k n : ℕ} → n ≡ refusal p (event k low high) → kind ≡ k → n ≡ refusal p (event kind low high)
+refusal-at p kind low high number same = rw same number
+
+-- ---- refusal, by the value
+pub refusal-high : (p : Public) (e : Event) → ltb 8 (e .kind) ≡ false → limit (e .kind) < value e → 2 ≡ refusal p e
+unfolding refusal
+refusal-high p e kind h = simp (kind, lt-ltb (limit (e .kind)) (value e) h)
+
+pub refusal-fits : (p : Public) (e : Event) {n : ℕ} → ltb 8 (e .kind) ≡ false → value e ≤ limit (e .kind) → n ≡ stateRefusal p (e .kind) → n ≡ refusal p e
+unfolding refusal
+refusal-fits p e kind h same = simp (kind, le-ltb (limit (e .kind)) (value e) h, same)
+
+-- ---- refusal of two kinds that have the same checks
+abbrev Either : Public → ℕ → ℕ → ℕ → ℕ → ℕ → Type 0
+Either p low high k j n = (n ≡ refusal p (event k low high)) × (n ≡ refusal p (event j low high))
+
+abbrev EitherState : Public → ℕ → ℕ → ℕ → Type 0
+EitherState p k j n = (n ≡ stateRefusal p k) × (n ≡ stateRefusal p j)
+
+module _ (p : Public) (low high : ℕ) where
+  pub reads-high : 0 < valueOf low high → Either p low high 0 2 2
+  reads-high h = (refusal-high p _ refl h, refusal-high p _ refl h)
+
+  pub reads-fit : valueOf low high ≤ 0 → Either p low high 0 2 0
+  unfolding stateRefusal
+  reads-fit h = (refusal-fits p _ refl h refl, refusal-fits p _ refl h refl)
+
+  pub writes-high : 255 < valueOf low high → Either p low high 1 3 2
+  writes-high h = (refusal-high p _ refl h, refusal-high p _ refl h)
+
+  pub writes-fit : {n : ℕ} → valueOf low high ≤ 255 → EitherState p 1 3 n → Either p low high 1 3 n
+  writes-fit h (one, three) = (refusal-fits p _ refl h one, refusal-fits p _ refl h three)
+
+  pub ends-high : 0 < valueOf low high → Either p low high 6 7 2
+  ends-high h = (refusal-high p _ refl h, refusal-high p _ refl h)
+
+  pub ends-fit : {n : ℕ} → valueOf low high ≤ 0 → EitherState p 6 7 n → Either p low high 6 7 n
+  ends-fit h (six, seven) = (refusal-fits p _ refl h six, refusal-fits p _ refl h seven)
+
+-- ---- stateRefusal, where a byte is being sent or not
+module _ (p : Public) {busy : Bool} (isBusy : busy ≡ inputFull p) where
+  pub writes-busy : busy ≡ true → EitherState p 1 3 3
+  unfolding stateRefusal
+  writes-busy b = (simp (sym isBusy ∙ b), simp (sym isBusy ∙ b))
+
+  pub writes-locked : {locked : Bool} → busy ≡ false → locked ≡ p .locked → locked ≡ true → EitherState p 1 3 4
+  unfolding stateRefusal
+  writes-locked b isLocked l = (simp (sym isBusy ∙ b, sym isLocked ∙ l), simp (sym isBusy ∙ b, sym isLocked ∙ l))
+
+  pub writes-free : {locked : Bool} → busy ≡ false → locked ≡ p .locked → locked ≡ false → EitherState p 1 3 0
+  unfolding stateRefusal
+  writes-free b isLocked l = (simp (sym isBusy ∙ b, sym isLocked ∙ l), simp (sym isBusy ∙ b, sym isLocked ∙ l))
+
+  pub ends-idle : busy ≡ false → EitherState p 6 7 6
+  unfolding stateRefusal
+  ends-idle b = (simp (sym isBusy ∙ b), simp (sym isBusy ∙ b))
+
+  pub ends-free : busy ≡ true → EitherState p 6 7 0
+  unfolding stateRefusal
+  ends-free b = (simp (sym isBusy ∙ b), simp (sym isBusy ∙ b))
+
+-- ---- step
 
 pub step-accepted : (m : Machine) (e : Event) → refusal (m .plain) e ≡ 0 → step m e ≡ accept m e
 unfolding step

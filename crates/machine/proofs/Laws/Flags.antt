@@ -1,7 +1,9 @@
 -- The flags of a byte after some of its bits are replaced: a test that is computed at each of the 256 bytes. Assumes nothing.
 use Prim.Native.Nat.{ℕ, _+_, _*_, _/_, _%_, _<_}
-use mathlib.Core.Path.{_≡_, refl, ap, _∙_}
+use mathlib.Core.Path.{_≡_, refl, _∙_}
 use mathlib.Core.Bool.{Bool, true, false, not, _&&_, false≢true}
+use lib.Dec.{ltb}
+use borrow.Author.Tests.{ltb-true, lt-ltb}
 use Rattle.translation.proofs.Tests.{and-true, every, every-below}
 use Rattle.machine.specs.Lines.{weight}
 use Rattle.machine.specs.Flags.{Flags, flagsOf, withOutput, withCommand, withErrors, withBreaks, withLocked}
@@ -20,10 +22,10 @@ abbrev same5 : Flags → Flags → Bool
 same5 x y = agree (x .breaks) (y .breaks) && agree (x .locked) (y .locked)
 
 abbrev same4 : Flags → Flags → Bool
-same4 x y = agree (x .parity) (y .parity) && same5 x y
+same4 x y = agree (x .perr) (y .perr) && same5 x y
 
 abbrev same3 : Flags → Flags → Bool
-same3 x y = agree (x .timeout) (y .timeout) && same4 x y
+same3 x y = agree (x .terr) (y .terr) && same4 x y
 
 abbrev same2 : Flags → Flags → Bool
 same2 x y = agree (x .command) (y .command) && same3 x y
@@ -39,43 +41,52 @@ same-true x y e =
     let e1 = and-true (agree (x .full) (y .full)) (same1 x y) e in
     let e2 = and-true (agree (x .mouse) (y .mouse)) (same2 x y) (e1 .1) in
     let e3 = and-true (agree (x .command) (y .command)) (same3 x y) (e2 .1) in
-    let e4 = and-true (agree (x .timeout) (y .timeout)) (same4 x y) (e3 .1) in
-    let e5 = and-true (agree (x .parity) (y .parity)) (same5 x y) (e4 .1) in
+    let e4 = and-true (agree (x .terr) (y .terr)) (same4 x y) (e3 .1) in
+    let e5 = and-true (agree (x .perr) (y .perr)) (same5 x y) (e4 .1) in
     let e6 = and-true (agree (x .breaks) (y .breaks)) (agree (x .locked) (y .locked)) (e5 .1) in
     λ i. record {
       full = agree-true (x .full) (y .full) (e1 .0) i;
       mouse = agree-true (x .mouse) (y .mouse) (e2 .0) i;
       command = agree-true (x .command) (y .command) (e3 .0) i;
-      timeout = agree-true (x .timeout) (y .timeout) (e4 .0) i;
-      parity = agree-true (x .parity) (y .parity) (e5 .0) i;
+      terr = agree-true (x .terr) (y .terr) (e4 .0) i;
+      perr = agree-true (x .perr) (y .perr) (e5 .0) i;
       breaks = agree-true (x .breaks) (y .breaks) (e6 .0) i;
       locked = agree-true (x .locked) (y .locked) (e6 .1) i;
     }
 
--- a change of the byte that does to the flags what g says, where the test passes at each byte
-by-test : (change : ℕ → ℕ) (g : Flags → Flags) → every (λ f. same (flagsOf (change f)) (g (flagsOf f))) 256 ≡ true → (f : ℕ) → f < 256 → flagsOf (change f) ≡ g (flagsOf f)
-by-test change g passed f h = same-true _ _ (every-below (λ k. same (flagsOf (change k)) (g (flagsOf k))) 256 passed f h)
+-- a change of the byte that does to the flags what g says and leaves bit 7 alone
+abbrev Does : (ℕ → ℕ) → (Flags → Flags) → Type 0
+Does change g = (f : ℕ) → f < 256 → (flagsOf (change f) ≡ g (flagsOf f)) × (f < 128 → change f < 128)
 
-pub output-flags : (x y : Bool) (f : ℕ) → f < 256 → flagsOf (f / 64 * 64 + f % 32 / 2 * 2 + weight 1 x + weight 32 y) ≡ withOutput x y (flagsOf f)
-output-flags true true = by-test (λ f. f / 64 * 64 + f % 32 / 2 * 2 + 1 + 32) (withOutput true true) refl
-output-flags true false = by-test (λ f. f / 64 * 64 + f % 32 / 2 * 2 + 1 + 0) (withOutput true false) refl
-output-flags false true = by-test (λ f. f / 64 * 64 + f % 32 / 2 * 2 + 0 + 32) (withOutput false true) refl
-output-flags false false = by-test (λ f. f / 64 * 64 + f % 32 / 2 * 2 + 0 + 0) (withOutput false false) refl
+abbrev does : (ℕ → ℕ) → (Flags → Flags) → ℕ → Bool
+does change g f = same (flagsOf (change f)) (g (flagsOf f)) && agree (ltb (change f) 128) (ltb f 128)
 
-pub command-flags : (x : Bool) (f : ℕ) → f < 256 → flagsOf (f / 16 * 16 + f % 8 + weight 8 x) ≡ withCommand x (flagsOf f)
-command-flags true = by-test (λ f. f / 16 * 16 + f % 8 + 8) (withCommand true) refl
-command-flags false = by-test (λ f. f / 16 * 16 + f % 8 + 0) (withCommand false) refl
+-- it is one where the test passes at each byte
+by-test : (change : ℕ → ℕ) (g : Flags → Flags) → every (does change g) 256 ≡ true → Does change g
+by-test change g passed f h =
+    let both = and-true _ _ (every-below (does change g) 256 passed f h) in
+    (same-true _ _ (both .0), λ low. ltb-true (change f) 128 (agree-true _ _ (both .1) ∙ lt-ltb f 128 low))
 
-pub error-flags : (x y : Bool) (f : ℕ) → f < 256 → flagsOf (f % 64 + weight 64 x + weight 128 y) ≡ withErrors x y (flagsOf f)
-error-flags true true = by-test (λ f. f % 64 + 64 + 128) (withErrors true true) refl
-error-flags true false = by-test (λ f. f % 64 + 64 + 0) (withErrors true false) refl
-error-flags false true = by-test (λ f. f % 64 + 0 + 128) (withErrors false true) refl
-error-flags false false = by-test (λ f. f % 64 + 0 + 0) (withErrors false false) refl
+pub output-flags : (x y : Bool) → Does (λ f. f / 4 * 4 + weight 1 x + weight 2 y) (withOutput x y)
+output-flags true true = by-test (λ f. f / 4 * 4 + 1 + 2) (withOutput true true) refl
+output-flags true false = by-test (λ f. f / 4 * 4 + 1 + 0) (withOutput true false) refl
+output-flags false true = by-test (λ f. f / 4 * 4 + 0 + 2) (withOutput false true) refl
+output-flags false false = by-test (λ f. f / 4 * 4 + 0 + 0) (withOutput false false) refl
 
-pub break-flags : (x : Bool) (f : ℕ) → f < 256 → flagsOf (f / 8 * 8 + f % 4 + weight 4 x) ≡ withBreaks x (flagsOf f)
-break-flags true = by-test (λ f. f / 8 * 8 + f % 4 + 4) (withBreaks true) refl
-break-flags false = by-test (λ f. f / 8 * 8 + f % 4 + 0) (withBreaks false) refl
+pub command-flags : (x : Bool) → Does (λ f. f / 8 * 8 + f % 4 + weight 4 x) (withCommand x)
+command-flags true = by-test (λ f. f / 8 * 8 + f % 4 + 4) (withCommand true) refl
+command-flags false = by-test (λ f. f / 8 * 8 + f % 4 + 0) (withCommand false) refl
 
-pub lock-flags : (x : Bool) (f : ℕ) → f < 256 → flagsOf (f / 4 * 4 + f % 2 + weight 2 x) ≡ withLocked x (flagsOf f)
-lock-flags true = by-test (λ f. f / 4 * 4 + f % 2 + 2) (withLocked true) refl
-lock-flags false = by-test (λ f. f / 4 * 4 + f % 2 + 0) (withLocked false) refl
+pub error-flags : (x y : Bool) → Does (λ f. f / 32 * 32 + f % 8 + weight 8 x + weight 16 y) (withErrors x y)
+error-flags true true = by-test (λ f. f / 32 * 32 + f % 8 + 8 + 16) (withErrors true true) refl
+error-flags true false = by-test (λ f. f / 32 * 32 + f % 8 + 8 + 0) (withErrors true false) refl
+error-flags false true = by-test (λ f. f / 32 * 32 + f % 8 + 0 + 16) (withErrors false true) refl
+error-flags false false = by-test (λ f. f / 32 * 32 + f % 8 + 0 + 0) (withErrors false false) refl
+
+pub break-flags : (x : Bool) → Does (λ f. f / 64 * 64 + f % 32 + weight 32 x) (withBreaks x)
+break-flags true = by-test (λ f. f / 64 * 64 + f % 32 + 32) (withBreaks true) refl
+break-flags false = by-test (λ f. f / 64 * 64 + f % 32 + 0) (withBreaks false) refl
+
+pub lock-flags : (x : Bool) → Does (λ f. f / 128 * 128 + f % 64 + weight 64 x) (withLocked x)
+lock-flags true = by-test (λ f. f / 128 * 128 + f % 64 + 64) (withLocked true) refl
+lock-flags false = by-test (λ f. f / 128 * 128 + f % 64 + 0) (withLocked false) refl

@@ -10,12 +10,14 @@ use borrow.Author.Tests.{eqb-true, eqb-false, ne-eqb, leb-true, le-leb, not-true
 use Rattle.translation.proofs.Tests.{and-true}
 use Rattle.machine.specs.State.{Machine, lift}
 use Rattle.machine.specs.Lines.{mode, clearBit}
-use Rattle.machine.specs.Commands.{within, pendingOf, cellNamed, commandWritten, loadCut, overlaid, selfTested, plainCommand, hasCode, codeAsked, closed, lockedUp, acts, writeCommand}
+use Rattle.machine.specs.Commands.{within, pendingOf, cellNamed, commandWritten, loadCut, overlaid, selfTested, plainCommand}
+use Rattle.machine.specs.Commands.{hasCode, codeAsked, closed, lockedUp, acts, writeCommand}
 use Rattle.machine.specs.Kept.{Kept}
 use Rattle.machine.proofs.Laws.Cond.{cond-holds, cond-both, not-both}
 use Rattle.machine.proofs.Laws.Bounds.{outputPort-below, testInputs-below, clearBit-below, setBit-2-below}
 use Rattle.machine.proofs.Laws.KeptParts.{withHost-kept, withLock-kept}
-use Rattle.machine.proofs.Laws.KeptLines.{KeptWith, put-kept, putCell-kept, withMode-kept, keyboardDisabled-kept, keyboardEnabled-kept, mouseDisabled-kept, mouseEnabled-kept}
+use Rattle.machine.proofs.Laws.KeptLines.{KeptWith, put-kept, putCell-kept, withMode-kept}
+use Rattle.machine.proofs.Laws.KeptLines.{keyboardDisabled-kept, keyboardEnabled-kept, mouseDisabled-kept, mouseEnabled-kept}
 use Rattle.machine.proofs.Laws.KeptDataPort.{dropped-kept}
 
 -- ---- within, pendingOf, cellNamed

@@ -5,14 +5,15 @@ use mathlib.Core.Path.{_≡_, refl}
 use mathlib.Core.Bool.{false}
 use mathlib.Core.List.{List, [], _∷_, _++_}
 use native.Mathlib.Omega.{arith}
-use lib.Dec.{eqb, ltb, leb}
+use lib.Dec.{eqb, ltb}
 use lib.ListN.{length, getD, length-append, List·getD-append}
 use lib.Seq.{getD-set-other, getD-at}
 use borrow.Author.Tests.{eqb-true, eqb-false, leb-false, ltb-true, ltb-false}
 use Rattle.translation.proofs.Tests.{split}
 use Rattle.machine.specs.State.{Machine, lift}
 use Rattle.machine.specs.Kept.{Kept}
-use Rattle.machine.specs.DataPort.{settled, dataWritten, send, sendKeyboard, latched, cellWritten, plainData, dropped, appended, loadByte, writeData}
+use Rattle.machine.specs.DataPort.{settled, dataWritten, send, sendKeyboard, latched, cellWritten, plainData}
+use Rattle.machine.specs.DataPort.{dropped, appended, codeFull, loadByte, writeData}
 use Rattle.machine.proofs.Laws.Cond.{cond-holds, cond-both, not-both}
 use Rattle.machine.proofs.Laws.KeptParts.{kept-host, withHost-kept, withPorts-kept, withSending-kept, withCode-kept}
 use Rattle.machine.proofs.Laws.KeptLines.{KeptWith, put-kept, putMouse-kept, set-kept, withMode-kept, keyboardEnabled-kept}
@@ -34,7 +35,8 @@ module _ {m : Machine} (k : Kept m) where
       set-kept k (m .plain .host .cell) v byte (rw getD-set-other (k .modeByte))
 
 -- ---- send, sendKeyboard, dropped, appended: not locked
-getD-append-holds : (P : ℕ → Type 0) (c : List ℕ) (v : ℕ) → ((i : ℕ) → i < length c → P (getD c i 0)) → P v → (i : ℕ) → i < length (c ++ v ∷ []) → P (getD (c ++ v ∷ []) i 0)
+getD-append-holds : (P : ℕ → Type 0) (c : List ℕ) (v : ℕ) → ((i : ℕ) → i < length c → P (getD c i 0)) → P v →
+    (i : ℕ) → i < length (c ++ v ∷ []) → P (getD (c ++ v ∷ []) i 0)
 getD-append-holds P c v old new i h =
     split (ltb i (length c))
     (λ t. let inside : i < length c = ltb-true _ _ t in rw List·getD-append (old i inside))
@@ -76,7 +78,7 @@ module _ {m : Machine} (k : Kept m) (unlocked : m .plain .locked ≡ false) (v :
   unfolding loadByte
   loadByte-kept =
       cond-holds Kept (eqb v 0) (λ _. settled-kept k) λ some.
-      cond-holds Kept (leb 16 (length (m .secret .code))) (λ _. dropped-kept (settled-kept k) unlocked) λ short.
+      cond-holds Kept (codeFull m) (λ _. dropped-kept (settled-kept k) unlocked) λ short.
       appended-kept k unlocked v (omega (arith, eqb-false v 0 some)) byte (leb-false _ _ short)
 
 pub writeData-kept : {m : Machine} → Kept m → m .plain .locked ≡ false → (v : ℕ) → v < 256 → Kept (writeData v m)

@@ -12,7 +12,9 @@ use Rattle.translation.specs.ScanCodes.{Translation, Yielded, nothing, byte, ra
 use Rattle.translation.proofs.ScanCodes.{translate-builtIn-below}
 use Rattle.machine.specs.State.{Public, Machine, lift}
 use Rattle.machine.specs.Lines.{inhibited, translates}
-use Rattle.machine.specs.Frames.{judged, positioned, keyError, damagedKey, ignored, matches, completes, opened, unlocked, advanced, try, keyed, keyedByte, translated, soundKey, keyboardFrame, mousePut, mouseFrame, idle, taken, timedOut, pinned}
+use Rattle.machine.specs.Frames.{errorsSet, positioned, keyError, damagedKey, ignored, matches, completes, opened}
+use Rattle.machine.specs.Frames.{unlocked, advanced, try, keyed, keyedByte, translated, soundKey, keyboardFrame}
+use Rattle.machine.specs.Frames.{mousePut, mouseFrame, idle, taken, timedOut, pinned}
 use Rattle.machine.specs.Kept.{Kept}
 use Rattle.machine.proofs.Laws.Cond.{cond-holds, cond-both, not-both}
 use Rattle.machine.proofs.Laws.KeptParts.{withErrors-kept, withBreaks-kept, withPorts-kept, withSending-kept, withLock-kept}
@@ -100,7 +102,7 @@ module _ {m : Machine} (k : Kept m) where
   pub timedOut-kept : Kept (lift timedOut m)
   unfolding timedOut
   timedOut-kept =
-      let k′ : Kept (lift (judged true false) (lift idle m)) = withErrors-kept idle-kept _ in
+      let k′ : Kept (lift (errorsSet true false) (lift idle m)) = withErrors-kept idle-kept _ in
       cond-both (KeptWith (m .secret)) (eqb (m .plain .sending .to) 2) (putMouse-kept k′ 0xFE (omega arith))
       (put-kept k′ 0xFE (omega arith))
 

@@ -5,7 +5,8 @@ use mathlib.Core.Path.{_≡_}
 use mathlib.Core.Bool.{Bool, true, false}
 use mathlib.Core.List.{List}
 use lib.ListN.{length, getD}
-use Rattle.machine.specs.State.{Output, Errors, Host, Ports, Sending, Machine, withOutput, withErrors, withHost, withPorts, withSending, withBreaks, withLocked, withRam, lift, withSecret}
+use Rattle.machine.specs.State.{Output, Errors, Host, Ports, Sending, Machine, lift}
+use Rattle.machine.specs.State.{withOutput, withErrors, withHost, withPorts, withSending, withBreaks, withLocked, withRam, withSecret}
 use Rattle.machine.specs.Kept.{Kept}
 use Rattle.machine.proofs.Laws.Cond.{not-both}
 

@@ -1,19 +1,20 @@
 -- Laws of the definitions in specs/Lines. Assumes nothing.
 use mathlib.Core.Path.{_≡_, refl, ap, sym, _∙_}
-use mathlib.Core.Bool.{Bool, true, false}
-use mathlib.Core.List.{List, _∷_}
+use mathlib.Core.Bool.{Bool, true, false, _&&_}
+use mathlib.Core.List.{List}
 use Prim.Native.Nat.{ℕ, _+_, _*_, _≤_, _<_}
 use native.Mathlib.Omega.{arith}
 use lib.ListN.{length, getD, take, drop, length-take, List·getD-eq-default}
 use lib.Seq.{getD-take, getD-drop}
 use borrow.Author.Tests.{eq-eqb, ne-eqb}
-use Rattle.machine.specs.State.{Public}
-use Rattle.machine.specs.Lines.{weight, nibble, cellOf, put, putCell}
-use Rattle.machine.specs.View.{public}
+use Rattle.machine.specs.State.{Public, Machine, lift}
+use Rattle.machine.specs.Lines.{weight, nibble, cellOf, keySwitch, highNibble, mouseInterrupt, keyboardInterrupt}
+use Rattle.machine.specs.Lines.{mouseRequest, keyboardRequest, mouseOff, keyboardOff, outputPort, put, putCell}
+use Rattle.machine.specs.View.{stateLength, public}
 use Rattle.machine.proofs.Laws.View.{ram-of}
 
 -- ---- nibble
-pub upper-nibble : (a b c d : Bool) → weight 16 a + weight 32 b + weight 64 c + weight 128 d ≡ 16 * nibble a b c d
+upper-nibble : (a b c d : Bool) → weight 16 a + weight 32 b + weight 64 c + weight 128 d ≡ 16 * nibble a b c d
 unfolding nibble
 upper-nibble false false false false = refl
 upper-nibble false false false true = refl
@@ -32,13 +33,17 @@ upper-nibble true true false true = refl
 upper-nibble true true true false = refl
 upper-nibble true true true true = refl
 
+pub upper-sum : (a b c d : Bool) {w x y z : ℕ} → w ≡ weight 16 a → x ≡ weight 32 b → y ≡ weight 64 c → z ≡ weight 128 d →
+    w + x + y + z ≡ 16 * nibble a b c d
+upper-sum a b c d isW isX isY isZ = simp (isW, isX, isY, isZ) (upper-nibble a b c d)
+
 -- the interrupt requests, of which one at most stands, and the keyboard's line beside them
-pub keyboard-weight : (b : Bool) → weight 16 b ≡ 16 * nibble b false false false
+keyboard-weight : (b : Bool) → weight 16 b ≡ 16 * nibble b false false false
 unfolding nibble
 keyboard-weight true = refl
 keyboard-weight false = refl
 
-pub mouse-weight : (b : Bool) → weight 32 b ≡ 16 * nibble false b false false
+mouse-weight : (b : Bool) → weight 32 b ≡ 16 * nibble false b false false
 unfolding nibble
 mouse-weight true = refl
 mouse-weight false = refl
@@ -54,22 +59,53 @@ off-weight true false true = refl
 off-weight true true false = refl
 off-weight true true true = refl
 
-pub port-weight : (n : ℕ) (a b k : Bool) → n + 16 * nibble a b false false + weight 64 k ≡ n + 16 * nibble a b k false
+port-weight : (n : ℕ) (a b k : Bool) → n + 16 * nibble a b false false + weight 64 k ≡ n + 16 * nibble a b k false
 port-weight n a b k = omega (arith, off-weight a b k)
+
+-- ---- highNibble
+pub highNibble-lines : (p : Public) {r : ℕ} {full mouse : Bool} → p .host .overlay ≡ false →
+    r ≡ 16 * nibble (keySwitch p) (full && mouse) (p .errors .terr) (p .errors .perr) →
+    full ≡ p .output .full →
+    mouse ≡ p .output .mouse →
+    r ≡ 16 * highNibble p
+unfolding highNibble
+highNibble-lines p none made isFull isMouse = made ∙ simp (none, isFull, isMouse)
+
+-- ---- the interrupt requests
+module _ (p : Public) {r : ℕ} {full mouse : Bool} (isFull : full ≡ p .output .full) (isMouse : mouse ≡ p .output .mouse) where
+  pub mouse-requested : full ≡ true → mouse ≡ true → r ≡ weight 32 (mouseInterrupt p) →
+      r ≡ 16 * nibble (keyboardRequest p) (mouseRequest p) false false
+  mouse-requested stands from made = made ∙ mouse-weight (mouseInterrupt p) ∙ simp (sym isFull ∙ stands, sym isMouse ∙ from)
+
+  pub keyboard-requested : full ≡ true → mouse ≡ false → r ≡ weight 16 (keyboardInterrupt p) →
+      r ≡ 16 * nibble (keyboardRequest p) (mouseRequest p) false false
+  keyboard-requested stands from made = made ∙ keyboard-weight (keyboardInterrupt p) ∙ simp (sym isFull ∙ stands, sym isMouse ∙ from)
+
+-- ---- outputPort
+pub outputPort-sum : (p : Public) {low requests off : ℕ} {mouse keyboard : Bool} → mouse ≡ mouseOff p → keyboard ≡ keyboardOff p →
+    low ≡ nibble (p .ports .p20) (p .ports .p21) false mouse →
+    requests ≡ 16 * nibble (keyboardRequest p) (mouseRequest p) false false →
+    off ≡ weight 64 keyboard →
+    low + requests + off ≡ outputPort p
+unfolding outputPort
+outputPort-sum p isMouse isKeyboard isLow isRequests isOff =
+    simp (isLow, isRequests, isOff, isMouse, isKeyboard)
+    (port-weight (nibble (p .ports .p20) (p .ports .p21) false (mouseOff p)) (keyboardRequest p) (mouseRequest p) (keyboardOff p))
 
 -- ---- cellOf
 -- the program finds a cell behind the first 28 bytes
-pub cellOf-at : (s : List ℕ) (k : ℕ) → length s ≡ 60 → k < 32 → getD s (28 + k) 0 ≡ cellOf (public s) k
+pub cellOf-at : (s : List ℕ) (k : ℕ) → length s ≡ stateLength → k < 32 → getD s (28 + k) 0 ≡ cellOf (public s) k
 cellOf-at s k long h = sym (ap (λ (xs : List ℕ). getD xs k 0) (ram-of s long) ∙ getD-take 32 (drop 28 s) k 0 h ∙ getD-drop 28 s k 0)
 
-pub cellOf-none : (s : List ℕ) (k : ℕ) → length s ≡ 60 → 32 ≤ k → 0 ≡ cellOf (public s) k
+pub cellOf-none : (s : List ℕ) (k : ℕ) → length s ≡ stateLength → 32 ≤ k → 0 ≡ cellOf (public s) k
 cellOf-none s k long h = sym (ap (λ (xs : List ℕ). getD xs k 0) (ram-of s long) ∙ List·getD-eq-default (take 32 (drop 28 s)) 0 (simp length-take (omega arith)))
 
 -- ---- putCell
-pub putCell-zero : (p : Public) (k b : ℕ) → b ≡ cellOf p k → b ≡ 0 → putCell k p ≡ p
-unfolding putCell
-putCell-zero p k b e z = simp (eq-eqb (cellOf p k) 0 (sym e ∙ z))
+module _ (m : Machine) (k : ℕ) {b : ℕ} (read : b ≡ cellOf (m .plain) k) where
+  pub putCell-zero : b ≡ 0 → m ≡ lift (putCell k) m
+  unfolding putCell
+  putCell-zero z = simp (eq-eqb (cellOf (m .plain) k) 0 (sym read ∙ z))
 
-pub putCell-byte : (p : Public) (k b : ℕ) → b ≡ cellOf p k → (b ≡ 0 → ⊥) → putCell k p ≡ put b p
-unfolding putCell
-putCell-byte p k b e z = simp (ne-eqb (cellOf p k) 0 (λ h. z (e ∙ h)), e)
+  pub putCell-byte : (b ≡ 0 → ⊥) → lift (put b) m ≡ lift (putCell k) m
+  unfolding putCell
+  putCell-byte z = simp (ne-eqb (cellOf (m .plain) k) 0 (λ h. z (read ∙ h)), read)

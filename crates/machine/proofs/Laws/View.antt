@@ -1,95 +1,58 @@
--- What the program's stores do to the machine that its bytes stand for, and the lock code as sixteen bytes of which the first n are
--- the code. Assumes nothing.
-use mathlib.Core.Path.{_≡_, refl, _∙_, ap, sym, subst}
-use mathlib.Core.Bool.{Bool, true, false, _&&_}
+-- What the program's stores do to the machine that its bytes stand for. Assumes nothing.
+use mathlib.Core.Path.{_≡_, refl, _∙_, ap, ap₂, sym, subst}
+use mathlib.Core.Bool.{false}
 use mathlib.Core.List.{List, [], _∷_, _++_}
-use Prim.Native.Nat.{ℕ, suc, _+_, _≤_, _<_, min}
+use Prim.Native.Nat.{ℕ, zero, suc, _+_, _-_, _≤_, _<_}
 use native.Mathlib.Omega.{arith}
-use native.Mathlib.Numerals.{add-one}
 use lib.ListN.{length, take, drop, getD, set, length-take, length-set}
-use lib.Seq.{take-suc-set, getD-take, getD-drop, take-set-le, take-set-lt, drop-set-lt, drop-set-add, drop-cons, set-out, getD-set-other}
-use lib.Dec.{leb, ltb, eqb}
-use borrow.Author.Tests.{le-leb, lt-leb, lt-ltb, le-ltb, eq-eqb, ne-eqb, eqb-true, eqb-false}
-use Rattle.translation.proofs.Tests.{split}
-use Rattle.machine.specs.State.{Machine, lift, withOutput, withHost, withRam}
+use lib.Seq.{take-set-le, take-set-lt, drop-set-lt, drop-set-add, drop-cons, set-out, getD-set-other}
+use Rattle.machine.proofs.Laws.Code.{code-append, code-long}
+use Rattle.machine.proofs.Laws.Lists.{listed, front}
+use Rattle.machine.specs.State.{Public, Machine, lift, withOutput, withHost, withRam}
 use Rattle.machine.specs.Lines.{withMode}
 use Rattle.machine.specs.DataPort.{settled, send, latched, dropped, appended}
 use Rattle.machine.specs.Commands.{overlaid}
 use Rattle.machine.specs.Frames.{positioned, pinned}
 use Rattle.machine.specs.Flags.{Flags, flagsOf}
-use Rattle.machine.specs.View.{view}
-
--- ---- the lock code
-module _ (n : ℕ) (bytes : List ℕ) (long : length bytes ≡ 16) where
-  pub code-length : length (take n bytes) ≡ min n 16
-  code-length = length-take n bytes ∙ ap (min n) long
-
-  pub code-full : 16 ≤ n → leb 16 (length (take n bytes)) ≡ true
-  code-full h = le-leb 16 (length (take n bytes)) (simp code-length (omega arith))
-
-  pub code-room : n < 16 → leb 16 (length (take n bytes)) ≡ false
-  code-room h = lt-leb 16 (length (take n bytes)) (simp code-length (omega arith))
-
-  -- there is a code where n is not 0
-  pub eqb-code : eqb n 0 ≡ eqb (length (take n bytes)) 0
-  eqb-code = split (eqb n 0) (λ h. h ∙ sym (eq-eqb (length (take n bytes)) 0 (none (eqb-true n 0 h)))) (λ h. h ∙ sym (ne-eqb (length (take n bytes)) 0 (some (eqb-false n 0 h))))
-    where
-      none : n ≡ 0 → length (take n bytes) ≡ 0
-      none e = simp code-length (omega arith)
-
-      some : (n ≡ 0 → ⊥) → length (take n bytes) ≡ 0 → ⊥
-      some f e = f (omega (arith, code-length))
-
-  -- the code after one more byte is stored behind it
-  code-append : n < 16 → (v : ℕ) → take (n + 1) (set bytes n v) ≡ take n bytes ++ (v ∷ [])
-  code-append h v = rw add-one (take-suc-set bytes n v (omega arith))
-
-  -- the code's byte at a position, which the program reads in the array
-  pub code-at : (k x r : ℕ) → r ≡ length (take n bytes) → k < r → eqb x (getD bytes k 0) ≡ (ltb k (length (take n bytes)) && eqb x (getD (take n bytes) k 0))
-  code-at k x r e h =
-      let below : k < length (take n bytes) = omega arith in
-      simp (lt-ltb k (length (take n bytes)) below, getD-take n bytes k 0 (omega (arith, code-length)))
-
-  pub code-past : (k x r : ℕ) → r ≡ length (take n bytes) → r ≤ k → false ≡ (ltb k (length (take n bytes)) && eqb x (getD (take n bytes) k 0))
-  code-past k x r e h = simp (le-ltb k (length (take n bytes)) (omega arith))
+use Rattle.machine.specs.View.{stateLength, view}
 
 -- ---- stores
--- what holds of twelve bytes with any more behind them holds of a state
-twelve : (P : List ℕ → Type 0) → ((x0 x1 x2 x3 x4 x5 x6 x7 x8 x9 x10 x11 : ℕ) (r : List ℕ) → length r ≡ 48 → P (x0 ∷ x1 ∷ x2 ∷ x3 ∷ x4 ∷ x5 ∷ x6 ∷ x7 ∷ x8 ∷ x9 ∷ x10 ∷ x11 ∷ r)) → (s : List ℕ) → length s ≡ 60 → P s
-twelve P all [] long = absurd (omega arith)
-twelve P all (x0 ∷ []) long = absurd (omega arith)
-twelve P all (x0 ∷ x1 ∷ []) long = absurd (omega arith)
-twelve P all (x0 ∷ x1 ∷ x2 ∷ []) long = absurd (omega arith)
-twelve P all (x0 ∷ x1 ∷ x2 ∷ x3 ∷ []) long = absurd (omega arith)
-twelve P all (x0 ∷ x1 ∷ x2 ∷ x3 ∷ x4 ∷ []) long = absurd (omega arith)
-twelve P all (x0 ∷ x1 ∷ x2 ∷ x3 ∷ x4 ∷ x5 ∷ []) long = absurd (omega arith)
-twelve P all (x0 ∷ x1 ∷ x2 ∷ x3 ∷ x4 ∷ x5 ∷ x6 ∷ []) long = absurd (omega arith)
-twelve P all (x0 ∷ x1 ∷ x2 ∷ x3 ∷ x4 ∷ x5 ∷ x6 ∷ x7 ∷ []) long = absurd (omega arith)
-twelve P all (x0 ∷ x1 ∷ x2 ∷ x3 ∷ x4 ∷ x5 ∷ x6 ∷ x7 ∷ x8 ∷ []) long = absurd (omega arith)
-twelve P all (x0 ∷ x1 ∷ x2 ∷ x3 ∷ x4 ∷ x5 ∷ x6 ∷ x7 ∷ x8 ∷ x9 ∷ []) long = absurd (omega arith)
-twelve P all (x0 ∷ x1 ∷ x2 ∷ x3 ∷ x4 ∷ x5 ∷ x6 ∷ x7 ∷ x8 ∷ x9 ∷ x10 ∷ []) long = absurd (omega arith)
-twelve P all (x0 ∷ x1 ∷ x2 ∷ x3 ∷ x4 ∷ x5 ∷ x6 ∷ x7 ∷ x8 ∷ x9 ∷ x10 ∷ x11 ∷ r) long = all x0 x1 x2 x3 x4 x5 x6 x7 x8 x9 x10 x11 r (omega arith)
+-- the first twelve bytes one by one, and the rest
+abbrev shown : List ℕ → List ℕ
+shown s = listed 0 12 s ++ drop 12 s
 
-pub set-pins : (s : List ℕ) → length s ≡ 60 → (v : ℕ) → view (set s 2 v) ≡ lift (pinned v) (view s)
-set-pins s long v = twelve (λ s. view (set s 2 v) ≡ lift (pinned v) (view s)) (λ x0 x1 x2 x3 x4 x5 x6 x7 x8 x9 x10 x11 r n. refl) s long
+pub set-pins : (s : List ℕ) → length s ≡ stateLength → (v : ℕ) → view (set s 2 v) ≡ lift (pinned v) (view s)
+set-pins s long v = front 12 (λ s. view (set s 2 v) ≡ lift (pinned v) (view s)) s (omega arith) refl
 
-pub set-latches : (s : List ℕ) → length s ≡ 60 → (v : ℕ) → view (set s 3 v) ≡ lift (latched v) (view s)
-set-latches s long v = twelve (λ s. view (set s 3 v) ≡ lift (latched v) (view s)) (λ x0 x1 x2 x3 x4 x5 x6 x7 x8 x9 x10 x11 r n. refl) s long
+pub set-latches : (s : List ℕ) → length s ≡ stateLength → (v : ℕ) → view (set s 3 v) ≡ lift (latched v) (view s)
+set-latches s long v = front 12 (λ s. view (set s 3 v) ≡ lift (latched v) (view s)) s (omega arith) refl
 
-pub set-settled : (s : List ℕ) → length s ≡ 60 → view (set (set s 4 0) 5 0) ≡ lift settled (view s)
-set-settled s long = twelve (λ s. view (set (set s 4 0) 5 0) ≡ lift settled (view s)) (λ x0 x1 x2 x3 x4 x5 x6 x7 x8 x9 x10 x11 r n. refl) s long
+pub set-settled : (s : List ℕ) → length s ≡ stateLength → view (set (set s 4 0) 5 0) ≡ lift settled (view s)
+set-settled s long = front 12 (λ s. view (set (set s 4 0) 5 0) ≡ lift settled (view s)) s (omega arith) refl
 
-pub set-overlay : (s : List ℕ) → length s ≡ 60 → (n : ℕ) → view (set (set s 6 1) 7 n) ≡ lift (overlaid n) (view s)
-set-overlay s long n = twelve (λ s. view (set (set s 6 1) 7 n) ≡ lift (overlaid n) (view s)) (λ x0 x1 x2 x3 x4 x5 x6 x7 x8 x9 x10 x11 r n. refl) s long
+pub set-overlay : (s : List ℕ) → length s ≡ stateLength → (n : ℕ) → view (set (set s 6 1) 7 n) ≡ lift (overlaid n) (view s)
+set-overlay s long n = front 12 (λ s. view (set (set s 6 1) 7 n) ≡ lift (overlaid n) (view s)) s (omega arith) refl
 
-pub set-sending : (s : List ℕ) → length s ≡ 60 → (to v : ℕ) → view (set (set s 8 to) 9 v) ≡ lift (send to v) (view s)
-set-sending s long to v = twelve (λ s. view (set (set s 8 to) 9 v) ≡ lift (send to v) (view s)) (λ x0 x1 x2 x3 x4 x5 x6 x7 x8 x9 x10 x11 r n. refl) s long
+pub set-sending : (s : List ℕ) → length s ≡ stateLength → (to v : ℕ) → view (set (set s 8 to) 9 v) ≡ lift (send to v) (view s)
+set-sending s long to v = front 12 (λ s. view (set (set s 8 to) 9 v) ≡ lift (send to v) (view s)) s (omega arith) refl
 
-pub set-dropped : (s : List ℕ) → length s ≡ 60 → view (set s 10 0) ≡ dropped (view s)
-set-dropped s long = twelve (λ s. view (set s 10 0) ≡ dropped (view s)) (λ x0 x1 x2 x3 x4 x5 x6 x7 x8 x9 x10 x11 r n. refl) s long
+-- n bytes from 12 on, where the lock code stands, are 0
+abbrev pub cleared : ℕ → List ℕ → List ℕ
+cleared zero s = s
+cleared (suc n) s = set (cleared n s) (12 + n) 0
 
-pub set-position : (s : List ℕ) → length s ≡ 60 → (k : ℕ) → view (set s 11 k) ≡ positioned k (view s)
-set-position s long k = twelve (λ s. view (set s 11 k) ≡ positioned k (view s)) (λ x0 x1 x2 x3 x4 x5 x6 x7 x8 x9 x10 x11 r n. refl) s long
+-- one more
+pub cleared-next : (s₀ s : List ℕ) (i : ℕ) → 12 ≤ i → s ≡ cleared (i - 12) s₀ → set s i 0 ≡ cleared (i + 1 - 12) s₀
+cleared-next s₀ s i low e =
+    let here : i ≡ 12 + (i - 12) = omega arith in
+    let more : i + 1 - 12 ≡ suc (i - 12) = omega arith in
+    ap₂ (λ (t : List ℕ) (j : ℕ). set t j 0) e here ∙ ap (λ (n : ℕ). cleared n s₀) (sym more)
+
+pub set-dropped : (s : List ℕ) → length s ≡ stateLength → view (set (cleared 16 s) 10 0) ≡ dropped (view s)
+set-dropped s long = front 28 (λ s. view (set (cleared 16 s) 10 0) ≡ dropped (view s)) s (omega arith) refl
+
+pub set-position : (s : List ℕ) → length s ≡ stateLength → (k : ℕ) → view (set s 11 k) ≡ positioned k (view s)
+set-position s long k = front 12 (λ s. view (set s 11 k) ≡ positioned k (view s)) s (omega arith) refl
 
 -- the machine with other flags
 abbrev pub flagged : Flags → Machine → Machine
@@ -97,8 +60,14 @@ flagged x m =
     record {
       plain = record {
         output = record { byte = m .plain .output .byte; full = x .full; mouse = x .mouse };
-        errors = record { timeout = x .timeout; parity = x .parity };
-        host = record { command = x .command; pending = m .plain .host .pending; cell = m .plain .host .cell; overlay = m .plain .host .overlay; nibble = m .plain .host .nibble };
+        errors = record { terr = x .terr; perr = x .perr };
+        host = record {
+          command = x .command;
+          pending = m .plain .host .pending;
+          cell = m .plain .host .cell;
+          overlay = m .plain .host .overlay;
+          nibble = m .plain .host .nibble;
+        };
         ports = m .plain .ports;
         sending = m .plain .sending;
         breaks = x .breaks;
@@ -108,8 +77,9 @@ flagged x m =
       secret = m .secret;
     }
 
-pub set-flags : (s : List ℕ) → length s ≡ 60 → (f : ℕ) (x : Flags) → flagsOf f ≡ x → view (set s 1 f) ≡ flagged x (view s)
-set-flags s long f x same = twelve (λ s. view (set s 1 f) ≡ flagged x (view s)) (λ x0 x1 x2 x3 x4 x5 x6 x7 x8 x9 x10 x11 r n. ap (λ (y : Flags). flagged y (view (x0 ∷ x1 ∷ x2 ∷ x3 ∷ x4 ∷ x5 ∷ x6 ∷ x7 ∷ x8 ∷ x9 ∷ x10 ∷ x11 ∷ r))) same) s long
+pub set-flags : (s : List ℕ) → length s ≡ stateLength → (f : ℕ) (x : Flags) → flagsOf f ≡ x → view (set s 1 f) ≡ flagged x (view s)
+set-flags s long f x same =
+    front 12 (λ s. view (set s 1 f) ≡ flagged x (view s)) s (omega arith) (ap (λ (y : Flags). flagged y (view (shown s))) same)
 
 -- a store past the front
 set-later : (front rest : List ℕ) (k v : ℕ) → set (front ++ rest) (length front + k) v ≡ front ++ set rest k v
@@ -121,20 +91,22 @@ set-later (x ∷ front) rest k v =
     ap (λ (i : ℕ). set (x ∷ front ++ rest) i v) later ∙ ap (λ (xs : List ℕ). x ∷ xs) (set-later front rest k v)
 
 -- the RAM's cells are the bytes from 28 on
-pub ram-of : (s : List ℕ) → length s ≡ 60 → getD s 28 0 ∷ take 31 (drop 29 s) ≡ take 32 (drop 28 s)
+pub ram-of : (s : List ℕ) → length s ≡ stateLength → getD s 28 0 ∷ take 31 (drop 29 s) ≡ take 32 (drop 28 s)
 ram-of s long = ap (take 32) (sym (drop-cons s 28 0 (omega arith)))
 
 -- a store in the RAM leaves all else
-set-beside : (s : List ℕ) → length s ≡ 60 → (k v : ℕ) (cells : List ℕ) → lift (λ p. withRam p cells) (view (set s (28 + k) v)) ≡ lift (λ p. withRam p cells) (view s)
+set-beside : (s : List ℕ) → length s ≡ stateLength → (k v : ℕ) (cells : List ℕ) →
+    lift (λ p. withRam p cells) (view (set s (28 + k) v)) ≡ lift (λ p. withRam p cells) (view s)
 set-beside s long k v cells =
     let far : 28 + k ≡ 12 + (16 + k) = omega arith in
     let seen : List ℕ → Machine = λ t. lift (λ p. withRam p cells) (view t) in
-    twelve (λ t. seen (set t (28 + k) v) ≡ seen t)
-    (λ x0 x1 x2 x3 x4 x5 x6 x7 x8 x9 x10 x11 r n. ap (λ (i : ℕ). seen (set (x0 ∷ x1 ∷ x2 ∷ x3 ∷ x4 ∷ x5 ∷ x6 ∷ x7 ∷ x8 ∷ x9 ∷ x10 ∷ x11 ∷ r) i v)) far ∙ ap seen (set-later (x0 ∷ x1 ∷ x2 ∷ x3 ∷ x4 ∷ x5 ∷ x6 ∷ x7 ∷ x8 ∷ x9 ∷ x10 ∷ x11 ∷ []) r (16 + k) v)
-    ∙ rw (take-set-le 16 r (16 + k) v (omega arith)) refl) s long
+    let rest = drop 12 s in
+    front 12 (λ t. seen (set t (28 + k) v) ≡ seen t) s (omega arith)
+    (ap (λ (i : ℕ). seen (set (shown s) i v)) far ∙ ap seen (set-later (listed 0 12 s) rest (16 + k) v)
+    ∙ rw (take-set-le 16 rest (16 + k) v (omega arith)) refl)
 
 -- a cell of the RAM; cell 0 is the mode byte
-pub set-cell : (s : List ℕ) → length s ≡ 60 → (k v : ℕ) → k < 32 → view (set s (28 + k) v) ≡ lift (λ p. withRam p (set (p .ram) k v)) (view s)
+pub set-cell : (s : List ℕ) → length s ≡ stateLength → (k v : ℕ) → k < 32 → view (set s (28 + k) v) ≡ lift (λ p. withRam p (set (p .ram) k v)) (view s)
 set-cell s long k v h =
     let cells = set (getD s 28 0 ∷ take 31 (drop 29 s)) k v in
     let ram : getD (set s (28 + k) v) 28 0 ∷ take 31 (drop 29 (set s (28 + k) v)) ≡ cells =
@@ -143,42 +115,60 @@ set-cell s long k v h =
     in
     ap (λ (xs : List ℕ). lift (λ p. withRam p xs) (view (set s (28 + k) v))) ram ∙ set-beside s long k v cells
 
-pub set-mode : (s : List ℕ) → length s ≡ 60 → (v : ℕ) → view (set s 28 v) ≡ lift (withMode v) (view s)
+pub set-mode : (s : List ℕ) → length s ≡ stateLength → (v : ℕ) → view (set s 28 v) ≡ lift (withMode v) (view s)
 set-mode s long v = set-cell s long 0 v (omega arith)
 
 -- one more byte of the lock code
-pub set-appended : (s : List ℕ) → length s ≡ 60 → (v : ℕ) → getD s 10 0 < 16 → view (set (set s (12 + getD s 10 0) v) 10 (getD s 10 0 + 1)) ≡ appended v (view s)
+pub set-appended : (s : List ℕ) → length s ≡ stateLength → (v : ℕ) → getD s 10 0 < 16 →
+    view (set (set s (12 + getD s 10 0) v) 10 (getD s 10 0 + 1)) ≡ appended v (view s)
 set-appended s long v =
-    twelve (λ s. getD s 10 0 < 16 → view (set (set s (12 + getD s 10 0) v) 10 (getD s 10 0 + 1)) ≡ appended v (view s))
-    (λ x0 x1 x2 x3 x4 x5 x6 x7 x8 x9 x10 x11 r n h. ap (λ (t : List ℕ). view (set t 10 (x10 + 1))) (set-later (x0 ∷ x1 ∷ x2 ∷ x3 ∷ x4 ∷ x5 ∷ x6 ∷ x7 ∷ x8 ∷ x9 ∷ x10 ∷ x11 ∷ []) r x10 v)
-    ∙ rw (take-set-lt 16 r x10 v h, drop-set-lt 17 r x10 v (omega arith), getD-set-other r x10 16 v 0 (λ e. absurd (omega arith)), code-append x10 (take 16 r) (simp length-take (omega arith)) h v) refl) s long
+    let rest = drop 12 s in
+    let n = getD s 10 0 in
+    let others : n < 16 → 16 ≡ n → ⊥ = λ h e. omega arith in
+    front 12 (λ s. getD s 10 0 < 16 → view (set (set s (12 + getD s 10 0) v) 10 (getD s 10 0 + 1)) ≡ appended v (view s)) s (omega arith)
+    (λ h.
+    ap (λ (t : List ℕ). view (set t 10 (n + 1))) (set-later (listed 0 12 s) rest n v)
+    ∙ rw (
+      take-set-lt 16 rest n v h,
+      drop-set-lt 17 rest n v (omega arith),
+      getD-set-other rest n 16 v 0 (others h),
+      code-append n (take 16 rest) (code-long s long) h v,
+    ) refl)
 
 -- a byte put, and the flags that go with it
-pub set-output : (s : List ℕ) → length s ≡ 60 → (f b : ℕ) (x : Flags) → flagsOf f ≡ x → view (set (set s 1 f) 0 b) ≡ flagged x (lift (λ p. withOutput p (record { byte = b; full = p .output .full; mouse = p .output .mouse })) (view s))
+abbrev withByte : ℕ → Public → Public
+withByte b p = withOutput p (record { byte = b; full = p .output .full; mouse = p .output .mouse })
+
+pub set-output : (s : List ℕ) → length s ≡ stateLength → (f b : ℕ) (x : Flags) → flagsOf f ≡ x →
+    view (set (set s 1 f) 0 b) ≡ flagged x (lift (withByte b) (view s))
 set-output s long f b x same =
-    twelve (λ s. view (set (set s 1 f) 0 b) ≡ flagged x (lift (λ p. withOutput p (record { byte = b; full = p .output .full; mouse = p .output .mouse })) (view s)))
-    (λ x0 x1 x2 x3 x4 x5 x6 x7 x8 x9 x10 x11 r n. ap (λ (y : Flags). flagged y (view (b ∷ x1 ∷ x2 ∷ x3 ∷ x4 ∷ x5 ∷ x6 ∷ x7 ∷ x8 ∷ x9 ∷ x10 ∷ x11 ∷ r))) same) s long
+    front 12 (λ s. view (set (set s 1 f) 0 b) ≡ flagged x (lift (withByte b) (view s))) s
+    (omega arith)
+    (ap (λ (y : Flags). flagged y (view (set (shown s) 0 b))) same)
 
 -- a command written: flags, pending code, cell, and no overlay
-pub set-command : (s : List ℕ) → length s ≡ 60 → (f code cell : ℕ) (x : Flags) → flagsOf f ≡ x → view (set (set (set (set (set s 1 f) 4 code) 5 cell) 6 0) 7 0) ≡ flagged x (lift (λ p. withHost p (record { command = p .host .command; pending = code; cell = cell; overlay = false; nibble = 0 })) (view s))
+abbrev withPending : ℕ → ℕ → Public → Public
+withPending code cell p = withHost p (record { command = p .host .command; pending = code; cell = cell; overlay = false; nibble = 0 })
+
+abbrev pub storedPending : ℕ → ℕ → List ℕ → List ℕ
+storedPending code cell s = set (set (set (set s 4 code) 5 cell) 6 0) 7 0
+
+pub set-command : (s : List ℕ) → length s ≡ stateLength → (f code cell : ℕ) (x : Flags) → flagsOf f ≡ x →
+    view (storedPending code cell (set s 1 f)) ≡ flagged x (lift (withPending code cell) (view s))
 set-command s long f code cell x same =
-    twelve (λ s. view (set (set (set (set (set s 1 f) 4 code) 5 cell) 6 0) 7 0) ≡ flagged x (lift (λ p. withHost p (record { command = p .host .command; pending = code; cell = cell; overlay = false; nibble = 0 })) (view s)))
-    (λ x0 x1 x2 x3 x4 x5 x6 x7 x8 x9 x10 x11 r n. ap (λ (y : Flags). flagged y (view (x0 ∷ x1 ∷ x2 ∷ x3 ∷ code ∷ cell ∷ 0 ∷ 0 ∷ x8 ∷ x9 ∷ x10 ∷ x11 ∷ r))) same) s long
+    front 12
+    (λ s. view (storedPending code cell (set s 1 f)) ≡ flagged x (lift (withPending code cell) (view s)))
+    s
+    (omega arith)
+    (ap (λ (y : Flags). flagged y (view (storedPending code cell (shown s)))) same)
 
 -- locked, with nothing typed yet, or open
-pub set-closed : (s : List ℕ) → length s ≡ 60 → (f : ℕ) (x : Flags) → flagsOf f ≡ x → view (set (set s 1 f) 11 0) ≡ positioned 0 (flagged x (view s))
+pub set-closed : (s : List ℕ) → length s ≡ stateLength → (f : ℕ) (x : Flags) → flagsOf f ≡ x → view (set (set s 1 f) 11 0) ≡ positioned 0 (flagged x (view s))
 set-closed s long f x same = set-position (set s 1 f) (length-set s 1 f ∙ long) 0 ∙ ap (positioned 0) (set-flags s long f x same)
 
--- the bytes that hold the lock code
-pub code-long : (s : List ℕ) → length s ≡ 60 → length (take 16 (drop 12 s)) ≡ 16
-code-long s long = twelve (λ s. length (take 16 (drop 12 s)) ≡ 16) (λ x0 x1 x2 x3 x4 x5 x6 x7 x8 x9 x10 x11 r n. simp length-take (omega arith)) s long
-
 -- a cell past the RAM's end: nothing is stored
-pub set-none : (s : List ℕ) → length s ≡ 60 → (k v : ℕ) → 32 ≤ k → view s ≡ lift (λ p. withRam p (set (p .ram) k v)) (view s)
+pub set-none : (s : List ℕ) → length s ≡ stateLength → (k v : ℕ) → 32 ≤ k → view s ≡ lift (λ p. withRam p (set (p .ram) k v)) (view s)
 set-none s long k v h =
     let short : length (take 32 (drop 28 s)) ≤ k = simp length-take (omega arith) in
     let end : length (getD s 28 0 ∷ take 31 (drop 29 s)) ≤ k = subst (λ (xs : List ℕ). length xs ≤ k) (sym (ram-of s long)) short in
     ap (λ (xs : List ℕ). lift (λ p. withRam p xs) (view s)) (sym (set-out (getD s 28 0 ∷ take 31 (drop 29 s)) k v end))
-
-pub code-byte : (s : List ℕ) → length s ≡ 60 → (k : ℕ) → k < 16 → getD s (12 + k) 0 ≡ getD (take 16 (drop 12 s)) k 0
-code-byte s long k h = sym (getD-take 16 (drop 12 s) k 0 h ∙ getD-drop 12 s k 0)

@@ -14,5 +14,8 @@ use Rattle.machine.specs.Run.{after}
 use Rattle.machine.specs.Worked.{holds, allHold, table}
 
 pub worked : allHold table ≡ true
-unfolding check ones frame translate raw builtIn rows fresh nibble highNibble status putCell plainData loadByte writeData pendingOf loadCut plainCommand codeAsked lockedUp acts writeCommand keyError advanced try keyedByte keyed translated soundKey keyboardFrame stateRefusal refusal accept step reply after holds allHold table
+unfolding check ones frame translate raw builtIn rows fresh nibble highNibble status putCell
+    plainData loadByte writeData pendingOf loadCut plainCommand codeAsked lockedUp acts writeCommand
+    keyError advanced try keyedByte keyed translated soundKey keyboardFrame
+    stateRefusal refusal accept step reply after holds allHold table
 worked = refl

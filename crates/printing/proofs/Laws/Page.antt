@@ -10,9 +10,11 @@ use borrow.Author.Tests.{le-leb, lt-leb, le-ltb, ltb-false}
 use Rattle.machine.specs.State.{fresh}
 use Rattle.machine.specs.Run.{events, answers, filled, lengthRefusal, listRefusal}
 use Rattle.machine.proofs.Laws.Cond.{cond-both, or-false}
-use Rattle.controller.proofs.Laws.Run.{length-events, length-answers}
+use Rattle.machine.proofs.Laws.Run.{length-events, length-answers}
 use Rattle.printing.specs.Lines.{lines}
 use Rattle.printing.specs.Page.{header, refusedText, refusedLength, refused, answered, page, over, room, Written, Printed}
+use Rattle.machine.proofs.Laws.Lists.{handed}
+use Rattle.controller.specs.Promises.{FreshRun}
 use Rattle.printing.proofs.Laws.Parts.{handed-on}
 use Rattle.printing.proofs.Laws.Lines.{length-lines, lines-append}
 
@@ -26,12 +28,12 @@ pub refusedLength-test : (n : ℕ) → refusedLength n ≡ (not (eqb (n % 3) 0) 
 unfolding refusedLength lengthRefusal
 refusedLength-test n = eqb-cond-seven (not (eqb (n % 3) 0) || ltb 21000 n) (ltb 0 (n / 3 * 9))
 
-pub refusedLength-false : (n : ℕ) → refusedLength n ≡ false → n ≤ 21000
-refusedLength-false n a =
-    ltb-false 21000 n (or-false (not (eqb (n % 3) 0)) (ltb 21000 n) (sym (refusedLength-test n) ∙ a) .1)
+pub refusedLength-false : (n : ℕ) {isRefused : Bool} → isRefused ≡ refusedLength n → isRefused ≡ false → n ≤ 21000
+refusedLength-false n same free =
+    ltb-false 21000 n (or-false (not (eqb (n % 3) 0)) (ltb 21000 n) (sym (refusedLength-test n) ∙ sym same ∙ free) .1)
 
 -- with room for the answers check 8 does not stand either
-pub listRefusal-accepted : (list space : List ℕ) → refused list ≡ false → 9 * (length list / 3) ≤ length space → listRefusal list space ≡ 0
+listRefusal-accepted : (list space : List ℕ) → refused list ≡ false → 9 * (length list / 3) ≤ length space → listRefusal list space ≡ 0
 unfolding lengthRefusal
 listRefusal-accepted list space a room =
     let enough : length list / 3 * 9 ≤ length space = omega arith in
@@ -41,10 +43,6 @@ listRefusal-accepted list space a room =
 pub length-header : length header ≡ 28
 unfolding header
 length-header = refl
-
-pub length-refusedText : length refusedText ≡ 10
-unfolding refusedText
-length-refusedText = refl
 
 module _ (list : List ℕ) (a : refused list ≡ false) where
   pub answered-accepted : answered list ≡ answers fresh (events list)
@@ -90,22 +88,28 @@ and-false-right true = refl
 and-false-right false = refl
 
 module _ (list space out : List ℕ) where
-  pub room-refused : refused list ≡ true → room list space out ≡ leb (length refusedText) (length out)
+  room-refused : refused list ≡ true → room list space out ≡ leb (length refusedText) (length out)
   unfolding room
   room-refused a =
       let none : leb 0 (length space) ≡ true = le-leb 0 (length space) (omega arith) in
       simp (answered-refused list a, page-refused list a, none)
 
-  pub room-both : refused list ≡ false → 9 * (length list / 3) ≤ length space → 28 + 27 * (length list / 3) ≤ length out → room list space out ≡ true
+  room-both : refused list ≡ false → 9 * (length list / 3) ≤ length space → 28 + 27 * (length list / 3) ≤ length out →
+      room list space out ≡ true
   unfolding room
   room-both a many long =
-      simp (length-answered list a, length-page list a, le-leb (9 * (length list / 3)) (length space) many, le-leb (28 + 27 * (length list / 3)) (length out) long)
+      simp (
+        length-answered list a,
+        length-page list a,
+        le-leb (9 * (length list / 3)) (length space) many,
+        le-leb (28 + 27 * (length list / 3)) (length out) long,
+      )
 
-  pub room-few-answers : refused list ≡ false → length space < 9 * (length list / 3) → room list space out ≡ false
+  room-few-answers : refused list ≡ false → length space < 9 * (length list / 3) → room list space out ≡ false
   unfolding room
   room-few-answers a few = simp (length-answered list a, lt-leb (9 * (length list / 3)) (length space) few)
 
-  pub room-short-out : refused list ≡ false → length out < 28 + 27 * (length list / 3) → room list space out ≡ false
+  room-short-out : refused list ≡ false → length out < 28 + 27 * (length list / 3) → room list space out ≡ false
   unfolding room
   room-short-out a short =
       simp (length-page list a, lt-leb (28 + 27 * (length list / 3)) (length out) short, and-false-right)
@@ -115,32 +119,46 @@ split : {A : Type 0} (b : Bool) → (b ≡ true → A) → (b ≡ false → A) �
 split true one other = one refl
 split false one other = other refl
 
-module _ (list space out : List ℕ) where
-  pub printed-none : room list space out ≡ false → Printed list space out 0 space out
-  printed-none small = record { count = simp small; answers = simp small; text = simp small }
-
-  pub printed-refused : refused list ≡ true → (r : ℕ) (out′ : List ℕ) → Written refusedText out r out′ → Printed list space out r space out′
-  printed-refused a r out′ w =
+module _ (list space out : List ℕ) {isRefused : Bool} (same : isRefused ≡ refused list) where
+  pub printed-refused : {r : ℕ} {out′ : List ℕ} → isRefused ≡ true → Written refusedText out r out′ → Printed list space out r space out′
+  printed-refused stands w =
+      let a = sym same ∙ stands in
       record {
         count = simp (room-refused list space out a, page-refused list a) (w .count);
         answers = rw (answered-refused list a) (sym (cond-both (λ (xs : List ℕ). xs ≡ space) (room list space out) refl refl));
         text = simp (room-refused list space out a, page-refused list a) (w .text);
       }
 
-  pub printed-all : refused list ≡ false → 9 * (length list / 3) ≤ length space → 28 + 27 * (length list / 3) ≤ length out → (r : ℕ) (space′ out′ : List ℕ) → space′ ≡ filled fresh (events list) space → r ≡ 28 + 27 * (length list / 3) → out′ ≡ over (header ++ lines (length list / 3) space′) out → Printed list space out r space′ out′
+  printed-none : room list space out ≡ false → Printed list space out 0 space out
+  printed-none small = record { count = simp small; answers = simp small; text = simp small }
+
+  pub printed-few : isRefused ≡ false → length space < 9 * (length list / 3) → Printed list space out 0 space out
+  printed-few free few = printed-none (room-few-answers list space out (sym same ∙ free) few)
+
+  pub printed-short : isRefused ≡ false → length out < 28 + 27 * (length list / 3) → Printed list space out 0 space out
+  printed-short free short = printed-none (room-short-out list space out (sym same ∙ free) short)
+
+  pub printed-all : {n r : ℕ} {space′ out′ : List ℕ} → isRefused ≡ false → 9 * (length list / 3) ≤ length space → 28 + 27 * (length list / 3) ≤ length out →
+      FreshRun list space space′ n →
+      (r ≡ 28 + 27 * (length list / 3)) × (out′ ≡ over (header ++ lines (length list / 3) space′) out) →
+      Printed list space out r space′ out′
   unfolding filled
-  printed-all a many long r space′ out′ ran count text =
+  printed-all {space′ = space′} free many long ran (count, text) =
+      let a = sym same ∙ free in
       let large = room-both list space out a many long in
       let all = answered-accepted list a in
       let nine = length-answered list a in
       let bytes : space′ ≡ over (answered list) space =
-      ran ∙ rw (length-events list, ← nine, ← all) refl in
-      let same : lines (length list / 3) space′ ≡ lines (length list / 3) (answered list) =
+      ran .answered (listRefusal-accepted list space a many) ∙ rw (length-events list, ← nine, ← all) refl in
+      let printed : lines (length list / 3) space′ ≡ lines (length list / 3) (answered list) =
       ap (lines (length list / 3)) bytes ∙ lines-append (length list / 3) (answered list) (drop (length (answered list)) space) (omega arith) in
       record {
         count = simp large (count ∙ sym (length-page list a));
         answers = simp large bytes;
-        text = simp large (text ∙ ap (λ (xs : List ℕ). over (header ++ xs) out) same ∙ ap (λ (xs : List ℕ). over xs out) (sym (page-accepted list a)));
+        text =
+            simp large
+            (text ∙ ap (λ (xs : List ℕ). over (header ++ xs) out) printed
+            ∙ ap (λ (xs : List ℕ). over xs out) (sym (page-accepted list a)));
       }
 
 -- the text lies within its buffer
@@ -155,7 +173,9 @@ printed-within {list} {space} {out} {r} {space′} {out′} p = split (room list
     omega arith)
 
 -- ---- the header at the front, the rest of the buffer handed on for the lines
-pub page-handed-on : (n : ℕ) (bytes out mid ys : List ℕ) → 9 * n ≤ length bytes → mid ≡ header ++ drop 28 out → ys ≡ lines n bytes ++ drop (27 * n) (take (length mid - 28) (drop 28 mid)) → take 28 mid ++ (ys ++ drop (length mid - 28) (drop 28 mid)) ≡ over (header ++ lines n bytes) out
+pub page-handed-on : (n : ℕ) (bytes out mid ys : List ℕ) → 9 * n ≤ length bytes → mid ≡ header ++ drop 28 out →
+    ys ≡ lines n bytes ++ drop (27 * n) (take (length mid - 28) (drop 28 mid)) →
+    handed 28 mid ys ≡ over (header ++ lines n bytes) out
 page-handed-on n bytes out mid ys enough front lent =
     let long : 28 + 27 * n ≡ length (header ++ lines n bytes) =
     omega (arith, length-append header (lines n bytes), length-header, length-lines n bytes enough) in

@@ -1,8 +1,7 @@
--- `controller::run::run` meets its contract. A refused call and an accepted one each have a law that makes the promised record.
+-- `controller::run::run` meets its contract. Refused, nothing is done; else the whole list has room.
 -- Assumes nothing.
 use borrow.Author.Needs.{needs}
-use mathlib.Core.Path.{refl, sym, _∙_}
-use Rattle.controller.proofs.Laws.Run.{ran-refused, ran-accepted}
+use Rattle.controller.proofs.Laws.Run.{list-refused, list-run}
 use Rattle.controller.proofs.run.run.Statement.{statement}
 use Rattle.controller.proofs.run.run.Tie as tie
 
@@ -10,8 +9,7 @@ list-refusal-requires : tie.Need-list-refusal-requires
 list-refusal-requires c κs = search needs
 
 returns : tie.Need-returns
-returns c = ran-refused (c .before .before .before .before .args .s .now) (c .before .before .before .before .args .list .now) (c .before .before .before .before .args .answers .now) _ _ _ (λ e. c .if1 .taken (c .before .list-refusal .ensures ∙ e))
-    (c .before .list-refusal .ensures) refl refl
+returns c = list-refused (c .before .list-refusal .ensures) (c .if1 .taken)
 
 run-fitting-requires : tie.Need-run-fitting-requires
 run-fitting-requires c κs = search needs
@@ -20,8 +18,8 @@ same-length : tie.Need-same-length
 same-length c = search needs
 
 returns-2 : tie.Need-returns-2
-returns-2 c = ran-accepted (c .before .before .before .before .before .before .before .before .before .args .s .now) (c .before .before .before .before .before .before .before .before .before .args .list .now) (c .before .before .before .before .before .before .before .before .before .args .answers .now) _ _ _
-    (sym (c .before .before .before .before .before .before .list-refusal .ensures) ∙ c .before .before .before .before .before .if1 .left) refl (c .before .before .run-fitting .ensures)
+returns-2 c = let tested = c .before .before .before .before .before in
+    list-run (tested .before .list-refusal .ensures) (tested .if1 .left) (c .before .before .run-fitting .ensures)
 
 pub run-spec : {M : Type 1} → statement M
 run-spec =

@@ -1,7 +1,7 @@
--- `controller::run::run_fresh` meets its contract. The state that `start` makes is the fresh machine's.
+-- `controller::run::run_fresh` meets its contract. The run from the fresh state.
 -- Assumes nothing.
 use borrow.Author.Needs.{needs}
-use Rattle.controller.proofs.Laws.Run.{ran-fresh}
+use Rattle.controller.proofs.Laws.Run.{fresh-run}
 use Rattle.controller.proofs.run.run_fresh.Statement.{statement}
 use Rattle.controller.proofs.run.run_fresh.Tie as tie
 
@@ -15,7 +15,7 @@ same-length : tie.Need-same-length
 same-length c = search needs
 
 returns : tie.Need-returns
-returns c = ran-fresh (c .before .before .before .before .before .start .result) (c .before .before .before .before .before .before .before .before .args .list .now) (c .before .before .before .before .before .before .before .before .args .answers .now) _ _ _ (c .before .before .before .before .before .start .ensures) (c .before .before .run .ensures)
+returns c = search fresh-run
 
 pub run-fresh-spec : {M : Type 1} → statement M
 run-fresh-spec = tie.close (tie.spec start-requires run-requires same-length returns)

@@ -2,23 +2,22 @@
 -- Assumes nothing.
 use Prim.Native.Nat.{ℕ, _-_}
 use mathlib.Core.Path.{_≡_, sym, ap, _∙_}
-use mathlib.Core.Bool.{true}
+use mathlib.Core.List.{List}
 use native.Mathlib.Omega.{arith}
 use lib.ListN.{length, take, drop}
 use denote.Ref.{now}
 use borrow.Author.Tests.{not-true, not-false}
 use borrow.Author.Needs.{needs}
 use Rattle.image.specs.Layout.{bodyLength}
-use Rattle.image.specs.Find.{ends}
-use Rattle.image.proofs.Laws.Find.{bodyOf-part, Sealed, ends-sealed, sealed-distance, found-none, found-body}
+use Rattle.image.proofs.Laws.Find.{bodyOf-part, Sealed, ends-sealed, sealed-ends, sealed-distance, found-none, found-body}
 use Rattle.image.proofs.find.find.Statement.{statement}
 use Rattle.image.proofs.find.find.Tie as tie
 
-ended : (c : tie.Else1) → ends 1 bodyLength (now (c .before .before .before .args .bytes)) ≡ true
-ended c = sym (c .before .ends .ensures) ∙ not-false _ (c .if1 .left)
+abbrev given : tie.Else1 → List ℕ
+given c = now (c .before .before .before .args .bytes)
 
-passed : (c : tie.Else1) → Sealed 1 bodyLength (now (c .before .before .before .args .bytes))
-passed c = ends-sealed 1 bodyLength (now (c .before .before .before .args .bytes)) (ended c)
+passed : (c : tie.Else1) → Sealed 1 bodyLength (given c)
+passed c = ends-sealed 1 bodyLength _ (sym (c .before .ends .ensures) ∙ not-false _ (c .if1 .left))
 
 pointed : (c : tie.After-word) → c .word .result ≡ bodyLength
 pointed c = c .word .ensures ∙ sealed-distance 1 bodyLength _ (passed (c .before .before .before))
@@ -30,9 +29,7 @@ slice-aggregate-result : tie.Need-slice-aggregate-result
 slice-aggregate-result c = search needs
 
 returns : tie.Need-returns
-returns c =
-    let called = c .before .before in
-    sym (found-none (now (called .before .before .args .bytes)) (sym (called .ends .ensures) ∙ not-true _ (c .before .if1 .taken)))
+returns c = sym (found-none _ (sym (c .before .before .ends .ensures) ∙ not-true _ (c .before .if1 .taken)))
 
 sub-at : tie.Need-sub-at
 sub-at c = omega (arith, passed c)
@@ -67,10 +64,10 @@ part-result-end c = search needs
 returns-2 : tie.Need-returns-2
 returns-2 c =
     let tested = c .before .before .before .before in
-    let bytes = now (tested .before .before .before .args .bytes) in
+    let bytes = given tested in
     ap (λ (k : ℕ). take (length bytes - 8 - (length bytes - 8 - k)) (drop (length bytes - 8 - k) bytes)) (pointed (c .before))
     ∙ bodyOf-part 60 bytes (passed tested .room)
-    ∙ sym (found-body bytes (ended tested))
+    ∙ sym (found-body bytes (sealed-ends 1 bodyLength bytes (passed tested)))
 
 pub find-spec : {M : Type 1} → statement M
 find-spec =

@@ -31,17 +31,7 @@ mode-kept-requires c κs = search needs
 
 returns : tie.Need-returns
 unfolding bodyKept
-returns c =
-    simp (
-      c .mode-kept .ensures,
-      c .before .lock-kept .ensures,
-      c .before .before .code-kept .ensures,
-      c .before .before .before .sending-kept .ensures,
-      c .before .before .before .before .overlay-kept .ensures,
-      c .before .before .before .before .before .pending-kept .ensures,
-      c .before .before .before .before .before .before .latches-kept .ensures,
-      c .before .before .before .before .before .before .before .flags-kept .ensures,
-    )
+returns c = cc
 
 pub body-kept-spec : {M : Type 1} → statement M
 body-kept-spec =

@@ -8,8 +8,8 @@ use denote.Ref.{now}
 use borrow.Author.Tests.{le-leb, lt-leb}
 use borrow.Author.Needs.{needs}
 use Rattle.image.specs.Rules.{every, isZero, codeKept}
-use Rattle.image.specs.Layout.{at}
-use Rattle.image.proofs.Laws.Lists.{take-rest}
+use Rattle.machine.specs.View.{at}
+use Rattle.machine.proofs.Laws.Lists.{take-rest}
 use Rattle.image.proofs.Laws.Tests.{and-passed, and-failed}
 use Rattle.image.proofs.rules.code_kept.Statement.{statement}
 use Rattle.image.proofs.rules.code_kept.Tie as tie

@@ -18,7 +18,7 @@ add-result-2 : tie.Need-add-result-2
 add-result-2 c = search needs
 
 returns : tie.Need-returns
-returns c = rw (c .weight .ensures .0) (break-flags (c .before .args .on) (c .before .args .f) (search needs))
+returns c = rw (c .weight .ensures .0) (break-flags _ _ (search needs))
 
 pub with-breaks-spec : {M : Type 1} → statement M
 with-breaks-spec = tie.close (tie.spec mul-result add-result weight-requires add-result-2 returns)

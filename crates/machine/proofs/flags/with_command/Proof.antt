@@ -18,7 +18,7 @@ add-result-2 : tie.Need-add-result-2
 add-result-2 c = search needs
 
 returns : tie.Need-returns
-returns c = rw (c .weight .ensures .0) (command-flags (c .before .args .on) (c .before .args .f) (search needs))
+returns c = rw (c .weight .ensures .0) (command-flags _ _ (search needs))
 
 pub with-command-spec : {M : Type 1} → statement M
 with-command-spec = tie.close (tie.spec mul-result add-result weight-requires add-result-2 returns)

@@ -8,36 +8,22 @@ use Rattle.machine.proofs.flags.with_output.Tie as tie
 mul-result : tie.Need-mul-result
 mul-result c = search needs
 
-mul-result-2 : tie.Need-mul-result-2
-mul-result-2 c = search needs
+weight-requires : tie.Need-weight-requires
+weight-requires c κs = search needs
 
 add-result : tie.Need-add-result
 add-result c = search needs
 
-weight-requires : tie.Need-weight-requires
-weight-requires c κs = search needs
+weight-requires-2 : tie.Need-weight-requires-2
+weight-requires-2 c κs = search needs
 
 add-result-2 : tie.Need-add-result-2
 add-result-2 c = search needs
 
-weight-requires-2 : tie.Need-weight-requires-2
-weight-requires-2 c κs = search needs
-
-add-result-3 : tie.Need-add-result-3
-add-result-3 c = search needs
-
 returns : tie.Need-returns
-returns c = rw (c .before .weight .ensures .0, c .weight2 .ensures .0) (output-flags (c .before .before .args .full) (c .before .before .args .mouse) (c .before .before .args .f) (search needs))
+returns c = rw (c .before .weight .ensures .0, c .weight2 .ensures .0) (output-flags _ _ _ (search needs))
 
 pub with-output-spec : {M : Type 1} → statement M
 with-output-spec =
     tie.close
-    (tie.spec
-    mul-result
-    mul-result-2
-    add-result
-    weight-requires
-    add-result-2
-    weight-requires-2
-    add-result-3
-    returns)
+    (tie.spec mul-result weight-requires add-result weight-requires-2 add-result-2 returns)

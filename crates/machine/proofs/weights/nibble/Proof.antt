@@ -29,7 +29,7 @@ add-result-3 c = search needs
 
 returns : tie.Need-returns
 unfolding nibble
-returns c = (simp (c .weight4 .ensures .0, c .before .weight3 .ensures .0, c .before .before .weight2 .ensures .0, c .before .before .before .weight .ensures .0), omega arith)
+returns c = (cc, omega arith)
 
 pub nibble-spec : {M : Type 1} → statement M
 nibble-spec =

@@ -1,8 +1,7 @@
 -- `machine::weights::upper` meets its contract. The weights are those of a nibble, times 16.
 -- Assumes nothing.
 use borrow.Author.Needs.{needs}
-use native.Mathlib.Omega.{arith}
-use Rattle.machine.proofs.Laws.Lines.{upper-nibble}
+use Rattle.machine.proofs.Laws.Lines.{upper-sum}
 use Rattle.machine.proofs.weights.upper.Statement.{statement}
 use Rattle.machine.proofs.weights.upper.Tie as tie
 
@@ -28,7 +27,7 @@ add-result-3 : tie.Need-add-result-3
 add-result-3 c = search needs
 
 returns : tie.Need-returns
-returns c = (simp (c .weight4 .ensures .0, c .before .weight3 .ensures .0, c .before .before .weight2 .ensures .0, c .before .before .before .weight .ensures .0) (upper-nibble _ _ _ _), omega arith)
+returns c = (search upper-sum, search needs)
 
 pub upper-spec : {M : Type 1} → statement M
 upper-spec =

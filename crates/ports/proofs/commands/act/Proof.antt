@@ -1,9 +1,8 @@
 -- `ports::commands::act` meets its contract. Each arm is a case of the definition, which computes once the command is known.
 -- Assumes nothing.
 use borrow.Author.Needs.{needs}
-use mathlib.Core.Path.{ap, sym, _∙_}
-use borrow.Author.Tests.{ne-eqb}
-use Rattle.machine.specs.Commands.{acts}
+use Rattle.machine.proofs.Laws.Changed.{by-rule}
+use Rattle.machine.proofs.Laws.Commands.{acts-A4, acts-A5, acts-A6, acts-other}
 use Rattle.ports.proofs.commands.act.Statement.{statement}
 use Rattle.ports.proofs.commands.act.Tie as tie
 
@@ -20,20 +19,16 @@ plain-command-requires : tie.Need-plain-command-requires
 plain-command-requires c κs = search needs
 
 returns : tie.Need-returns
-unfolding acts
-returns c = c .ask-code .ensures ∙ simp (c .before .before .match .keys1)
+returns c = search (by-rule, acts-A4)
 
 returns-2 : tie.Need-returns-2
-unfolding acts
-returns-2 c = c .drop-code .ensures ∙ simp (c .before .before .match .keys2)
+returns-2 c = search (by-rule, acts-A5)
 
 returns-3 : tie.Need-returns-3
-unfolding acts
-returns-3 c = c .lock-up .ensures ∙ simp (c .before .before .match .keys3)
+returns-3 c = search (by-rule, acts-A6)
 
 returns-4 : tie.Need-returns-4
-unfolding acts
-returns-4 c = c .plain-command .ensures ∙ simp (ne-eqb _ _ (c .before .before .match .rest .0 .0 .1), ne-eqb _ _ (c .before .before .match .rest .0 .1), ne-eqb _ _ (c .before .before .match .rest .1))
+returns-4 c = search (by-rule, acts-other)
 
 pub act-spec : {M : Type 1} → statement M
 act-spec =

@@ -1,8 +1,8 @@
--- `ports::commands::ask_code` meets its contract. The test is the definition's own.
+-- `ports::commands::ask_code` meets its contract. The test is the definition's.
 -- Assumes nothing.
 use borrow.Author.Needs.{needs}
-use mathlib.Core.Path.{ap, sym, _∙_}
-use Rattle.machine.specs.Commands.{codeAsked}
+use Rattle.machine.proofs.Laws.Changed.{by-rule}
+use Rattle.machine.proofs.Laws.Commands.{codeAsked-some, codeAsked-none}
 use Rattle.ports.proofs.commands.ask_code.Statement.{statement}
 use Rattle.ports.proofs.commands.ask_code.Tie as tie
 
@@ -16,12 +16,10 @@ put-requires-2 : tie.Need-put-requires-2
 put-requires-2 c κs = search needs
 
 returns : tie.Need-returns
-unfolding codeAsked
-returns c = c .put .ensures ∙ simp (sym (c .before .before .before .has-code .ensures) ∙ c .before .before .if1 .taken)
+returns c = search (by-rule, codeAsked-some)
 
 returns-2 : tie.Need-returns-2
-unfolding codeAsked
-returns-2 c = c .put2 .ensures ∙ simp (sym (c .before .before .before .has-code .ensures) ∙ c .before .before .if1 .left)
+returns-2 c = search (by-rule, codeAsked-none)
 
 pub ask-code-spec : {M : Type 1} → statement M
 ask-code-spec =

@@ -1,6 +1,5 @@
 -- `ports::commands::cell_named` meets its contract. Between 61h and 7Fh the low five bits are the command less 60h.
 -- Assumes nothing.
-use Rattle.machine.specs.Commands.{within}
 use Rattle.machine.proofs.Laws.Commands.{cell-of-61}
 use Rattle.ports.proofs.commands.cell_named.Statement.{statement}
 use Rattle.ports.proofs.commands.cell_named.Tie as tie

@@ -1,7 +1,7 @@
 -- `ports::commands::close` meets its contract. The store is the law's.
 -- Assumes nothing.
 use borrow.Author.Needs.{needs}
-use Rattle.machine.proofs.Laws.View.{set-closed}
+use Rattle.machine.proofs.Laws.Changed.{stored-closed}
 use Rattle.ports.proofs.commands.close.Statement.{statement}
 use Rattle.ports.proofs.commands.close.Tie as tie
 
@@ -21,7 +21,7 @@ element-write-s-2 : tie.Need-element-write-s-2
 element-write-s-2 c = search needs
 
 returns : tie.Need-returns
-returns c = set-closed (c .before .before .before .before .args .s .now) (c .before .before .sized .ensures) _ _ (c .with-locked .ensures)
+returns c = stored-closed (search needs) (c .with-locked .ensures)
 
 pub close-spec : {M : Type 1} → statement M
 close-spec =

@@ -1,8 +1,7 @@
 -- `ports::commands::command_written` meets its contract. The store is the law's.
 -- Assumes nothing.
 use borrow.Author.Needs.{needs}
-use mathlib.Core.Path.{ap, sym, _∙_}
-use Rattle.machine.proofs.Laws.View.{set-command}
+use Rattle.machine.proofs.Laws.Changed.{stored-command}
 use Rattle.ports.proofs.commands.command_written.Statement.{statement}
 use Rattle.ports.proofs.commands.command_written.Tie as tie
 
@@ -37,7 +36,7 @@ element-write-s-5 : tie.Need-element-write-s-5
 element-write-s-5 c = search needs
 
 returns : tie.Need-returns
-returns c = set-command (c .before .before .before .before .before .before .args .s .now) (c .before .before .before .before .sized .ensures) _ _ _ _ (c .before .before .with-command .ensures) ∙ simp (c .before .pending-of .ensures, c .cell-named .ensures)
+returns c = search stored-command
 
 pub command-written-spec : {M : Type 1} → statement M
 command-written-spec =

@@ -1,9 +1,8 @@
--- `ports::commands::cut_load` meets its contract. The test is the definition's own.
+-- `ports::commands::cut_load` meets its contract. The test is the definition's.
 -- Assumes nothing.
 use borrow.Author.Needs.{needs}
-use mathlib.Core.Path.{ap, sym, _∙_}
-use borrow.Author.Tests.{eq-eqb, ne-eqb}
-use Rattle.machine.specs.Commands.{loadCut}
+use Rattle.machine.proofs.Laws.Changed.{by-rule, untouched}
+use Rattle.machine.proofs.Laws.Commands.{loadCut-load, loadCut-none}
 use Rattle.ports.proofs.commands.cut_load.Statement.{statement}
 use Rattle.ports.proofs.commands.cut_load.Tie as tie
 
@@ -14,12 +13,10 @@ drop-code-requires : tie.Need-drop-code-requires
 drop-code-requires c κs = search needs
 
 returns : tie.Need-returns
-unfolding loadCut
-returns c = c .drop-code .ensures ∙ simp (eq-eqb _ _ (c .before .before .if1 .taken))
+returns c = search (by-rule, loadCut-load)
 
 returns-2 : tie.Need-returns-2
-unfolding loadCut
-returns-2 c = simp (ne-eqb _ _ (c .if1 .left))
+returns-2 c = search (untouched, loadCut-none)
 
 pub cut-load-spec : {M : Type 1} → statement M
 cut-load-spec = tie.close (tie.spec element-copy-out-if1 drop-code-requires returns returns-2)

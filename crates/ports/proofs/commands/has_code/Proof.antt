@@ -1,10 +1,7 @@
 -- `ports::commands::has_code` meets its contract. The code is empty exactly where its length is 0.
 -- Assumes nothing.
 use borrow.Author.Needs.{needs}
-use mathlib.Core.Path.{ap, sym, _∙_}
-use mathlib.Core.Bool.{not}
-use lib.ListN.{getD, take, drop}
-use Rattle.machine.proofs.Laws.View.{eqb-code, code-long}
+use Rattle.machine.proofs.Laws.Code.{counted-some}
 use Rattle.ports.proofs.commands.has_code.Statement.{statement}
 use Rattle.ports.proofs.commands.has_code.Tie as tie
 
@@ -15,7 +12,7 @@ element-copy-out-result : tie.Need-element-copy-out-result
 element-copy-out-result c = search needs
 
 returns : tie.Need-returns
-returns c = ap not (eqb-code (getD (c .before .before .before .args .s .now) 10 0) (take 16 (drop 12 (c .before .before .before .args .s .now))) (code-long (c .before .before .before .args .s .now) (c .before .sized .ensures)))
+returns c = search counted-some
 
 pub has-code-spec : {M : Type 1} → statement M
 has-code-spec = tie.close (tie.spec sized-requires element-copy-out-result returns)

@@ -1,7 +1,7 @@
 -- `ports::commands::overlay` meets its contract. The store is the law's.
 -- Assumes nothing.
 use borrow.Author.Needs.{needs}
-use Rattle.machine.proofs.Laws.View.{set-overlay}
+use Rattle.machine.proofs.Laws.Changed.{stored-overlay}
 use Rattle.ports.proofs.commands.overlay.Statement.{statement}
 use Rattle.ports.proofs.commands.overlay.Tie as tie
 
@@ -15,7 +15,7 @@ element-write-s-2 : tie.Need-element-write-s-2
 element-write-s-2 c = search needs
 
 returns : tie.Need-returns
-returns c = set-overlay (c .before .before .args .s .now) (c .sized .ensures) _
+returns c = stored-overlay (search needs)
 
 pub overlay-spec : {M : Type 1} → statement M
 overlay-spec = tie.close (tie.spec sized-requires element-write-s element-write-s-2 returns)

@@ -1,12 +1,10 @@
 -- `ports::commands::plain_command` meets its contract. Each arm is a case of the definition, which computes once the command is known.
 -- Assumes nothing.
 use borrow.Author.Needs.{needs}
-use mathlib.Core.Path.{_≡_, sym, _∙_}
-use mathlib.Core.Bool.{true}
 use native.Mathlib.Omega.{arith}
-use borrow.Author.Tests.{ne-eqb, le-leb, lt-leb}
-use Rattle.machine.specs.Commands.{plainCommand, within}
-use Rattle.machine.proofs.Laws.Commands.{cell-of-20}
+use Rattle.machine.proofs.Laws.Commands.{command-A7, command-A8, command-A9, command-AA, command-AB, command-AD, command-AE}
+use Rattle.machine.proofs.Laws.Commands.{command-C0, command-C1, command-C2, command-D0, command-E0, command-cell, command-low, command-high}
+use Rattle.machine.proofs.Laws.Changed.{by-rule, untouched}
 use Rattle.ports.proofs.commands.plain_command.Statement.{statement}
 use Rattle.ports.proofs.commands.plain_command.Tie as tie
 
@@ -50,69 +48,49 @@ put-named-cell-requires : tie.Need-put-named-cell-requires
 put-named-cell-requires c κs = search needs
 
 returns : tie.Need-returns
-unfolding plainCommand
-returns c = c .disable-mouse .ensures ∙ simp (c .before .before .match .keys1)
+returns c = search (by-rule, command-A7)
 
 returns-2 : tie.Need-returns-2
-unfolding plainCommand
-returns-2 c = c .enable-mouse .ensures ∙ simp (c .before .before .match .keys2)
+returns-2 c = search (by-rule, command-A8)
 
 returns-3 : tie.Need-returns-3
-unfolding plainCommand
-returns-3 c = c .put .ensures ∙ simp (c .before .before .match .keys3)
+returns-3 c = search (by-rule, command-A9)
 
 returns-4 : tie.Need-returns-4
-unfolding plainCommand
-returns-4 c = c .self-test .ensures ∙ simp (c .before .before .match .keys4)
+returns-4 c = search (by-rule, command-AA)
 
 returns-5 : tie.Need-returns-5
-unfolding plainCommand
-returns-5 c = c .put2 .ensures ∙ simp (c .before .before .match .keys5)
+returns-5 c = search (by-rule, command-AB)
 
 returns-6 : tie.Need-returns-6
-unfolding plainCommand
-returns-6 c = c .disable-keyboard .ensures ∙ simp (c .before .before .match .keys6)
+returns-6 c = search (by-rule, command-AD)
 
 returns-7 : tie.Need-returns-7
-unfolding plainCommand
-returns-7 c = c .enable-keyboard .ensures ∙ simp (c .before .before .match .keys7)
+returns-7 c = search (by-rule, command-AE)
 
 returns-8 : tie.Need-returns-8
-unfolding plainCommand
-returns-8 c = c .put-pins .ensures ∙ simp (c .before .before .match .keys8)
+returns-8 c = search (by-rule, command-C0)
 
 returns-9 : tie.Need-returns-9
-unfolding plainCommand
-returns-9 c = c .show-low-pins .ensures ∙ simp (c .before .before .match .keys9)
+returns-9 c = search (by-rule, command-C1)
 
 returns-10 : tie.Need-returns-10
-unfolding plainCommand
-returns-10 c = c .show-high-pins .ensures ∙ simp (c .before .before .match .keys10)
+returns-10 c = search (by-rule, command-C2)
 
 returns-11 : tie.Need-returns-11
-unfolding plainCommand
-returns-11 c = c .put-output-port .ensures ∙ simp (c .before .before .match .keys11)
+returns-11 c = search (by-rule, command-D0)
 
 returns-12 : tie.Need-returns-12
-unfolding plainCommand
-returns-12 c = c .put-test-inputs .ensures ∙ simp (c .before .before .match .keys12)
+returns-12 c = search (by-rule, command-E0)
 
 returns-13 : tie.Need-returns-13
-unfolding plainCommand
-returns-13 c = simp
-    (lt-leb 0x20 (c .before .before .args .c) (c .if1 .taken), ne-eqb _ _ (c .before .match .rest .0 .0 .0 .0 .0 .0 .0 .0 .0 .0 .0 .1), ne-eqb _ _ (c .before .match .rest .0 .0 .0 .0 .0 .0 .0 .0 .0 .0 .1), ne-eqb _ _ (c .before .match .rest .0 .0 .0 .0 .0 .0 .0 .0 .0 .1), ne-eqb _ _ (c .before .match .rest .0 .0 .0 .0 .0 .0 .0 .0 .1), ne-eqb _ _ (c .before .match .rest .0 .0 .0 .0 .0 .0 .0 .1), ne-eqb _ _ (c .before .match .rest .0 .0 .0 .0 .0 .0 .1), ne-eqb _ _ (c .before .match .rest .0 .0 .0 .0 .0 .1), ne-eqb _ _ (c .before .match .rest .0 .0 .0 .0 .1), ne-eqb _ _ (c .before .match .rest .0 .0 .0 .1), ne-eqb _ _ (c .before .match .rest .0 .0 .1), ne-eqb _ _ (c .before .match .rest .0 .1), ne-eqb _ _ (c .before .match .rest .1))
+returns-13 c = untouched (search command-low)
 
 returns-14 : tie.Need-returns-14
-unfolding plainCommand
-returns-14 c = let low = le-leb 0x20 (c .before .before .before .before .before .args .c) (c .before .before .before .if1 .left) in
-    let high = le-leb (c .before .before .before .before .before .args .c) 0x3F (omega (arith, c .before .before .if2 .taken)) in
-    let named : within 0x20 0x3F (c .before .before .before .before .before .args .c) ≡ true = simp (low, high) in
-    c .put-named-cell .ensures ∙ simp (named, cell-of-20 (c .before .before .before .before .before .args .c) named)
+returns-14 c = by-rule (c .put-named-cell .ensures) (command-cell _ _ (omega arith) (omega arith))
 
 returns-15 : tie.Need-returns-15
-unfolding plainCommand
-returns-15 c = simp
-    (le-leb 0x20 (c .before .before .before .args .c) (c .before .if1 .left), lt-leb (c .before .before .before .args .c) 0x3F (omega (arith, c .if2 .left)), ne-eqb _ _ (c .before .before .match .rest .0 .0 .0 .0 .0 .0 .0 .0 .0 .0 .0 .1), ne-eqb _ _ (c .before .before .match .rest .0 .0 .0 .0 .0 .0 .0 .0 .0 .0 .1), ne-eqb _ _ (c .before .before .match .rest .0 .0 .0 .0 .0 .0 .0 .0 .0 .1), ne-eqb _ _ (c .before .before .match .rest .0 .0 .0 .0 .0 .0 .0 .0 .1), ne-eqb _ _ (c .before .before .match .rest .0 .0 .0 .0 .0 .0 .0 .1), ne-eqb _ _ (c .before .before .match .rest .0 .0 .0 .0 .0 .0 .1), ne-eqb _ _ (c .before .before .match .rest .0 .0 .0 .0 .0 .1), ne-eqb _ _ (c .before .before .match .rest .0 .0 .0 .0 .1), ne-eqb _ _ (c .before .before .match .rest .0 .0 .0 .1), ne-eqb _ _ (c .before .before .match .rest .0 .0 .1), ne-eqb _ _ (c .before .before .match .rest .0 .1), ne-eqb _ _ (c .before .before .match .rest .1))
+returns-15 c = untouched (search command-high)
 
 pub plain-command-spec : {M : Type 1} → statement M
 plain-command-spec =

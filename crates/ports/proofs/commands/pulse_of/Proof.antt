@@ -1,7 +1,7 @@
--- `ports::commands::pulse_of` meets its contract. The test is the definition's own.
+-- `ports::commands::pulse_of` meets its contract. The test is the definition's.
 -- Assumes nothing.
 use borrow.Author.Needs.{needs}
-use mathlib.Core.Path.{_≡_, ap, sym, _∙_}
+use mathlib.Core.Path.{_∙_}
 use borrow.Author.Tests.{le-leb, lt-leb}
 use Rattle.machine.specs.Commands.{pulseOf}
 use Rattle.ports.proofs.commands.pulse_of.Statement.{statement}

@@ -1,7 +1,7 @@
--- `ports::commands::put_output_port` meets its contract. The callee's result is the definition's.
+-- `ports::commands::put_output_port` meets its contract. The byte that is put is the one that was read.
 -- Assumes nothing.
 use borrow.Author.Needs.{needs}
-use mathlib.Core.Path.{ap, sym, _∙_}
+use Rattle.machine.proofs.Laws.Changed.{by-rule}
 use Rattle.ports.proofs.commands.put_output_port.Statement.{statement}
 use Rattle.ports.proofs.commands.put_output_port.Tie as tie
 
@@ -12,7 +12,7 @@ put-requires : tie.Need-put-requires
 put-requires c κs = search needs
 
 returns : tie.Need-returns
-returns c = c .put .ensures ∙ simp (c .before .before .output-port .ensures)
+returns c = by-rule (c .put .ensures .change) (cc)
 
 pub put-output-port-spec : {M : Type 1} → statement M
 put-output-port-spec = tie.close (tie.spec output-port-requires put-requires returns)

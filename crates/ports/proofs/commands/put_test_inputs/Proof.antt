@@ -1,7 +1,7 @@
--- `ports::commands::put_test_inputs` meets its contract. The callees' results are the definition's.
+-- `ports::commands::put_test_inputs` meets its contract. The byte that is put is made of the two lines that were read.
 -- Assumes nothing.
 use borrow.Author.Needs.{needs}
-use mathlib.Core.Path.{ap, sym, _∙_}
+use Rattle.machine.proofs.Laws.Changed.{by-rule}
 use Rattle.ports.proofs.commands.put_test_inputs.Statement.{statement}
 use Rattle.ports.proofs.commands.put_test_inputs.Tie as tie
 
@@ -18,7 +18,7 @@ put-requires : tie.Need-put-requires
 put-requires c κs = search needs
 
 returns : tie.Need-returns
-returns c = c .put .ensures ∙ simp (c .before .before .nibble .ensures .0, c .before .before .before .mouse-off .ensures, c .before .before .before .before .before .keyboard-off .ensures)
+returns c = by-rule (c .put .ensures .change) (cc)
 
 pub put-test-inputs-spec : {M : Type 1} → statement M
 put-test-inputs-spec =

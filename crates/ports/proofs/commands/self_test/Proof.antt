@@ -1,9 +1,7 @@
--- `ports::commands::self_test` meets its contract. The callees' rules follow one another, over the mode byte that `mode` reads.
+-- `ports::commands::self_test` meets its contract. The mode byte that is stored is the rule's, and 55h is put.
 -- Assumes nothing.
 use borrow.Author.Needs.{needs}
-use mathlib.Core.Path.{ap, sym, _∙_}
-use Rattle.machine.specs.State.{lift}
-use Rattle.machine.specs.Lines.{put}
+use Rattle.machine.proofs.Laws.Changed.{by-two}
 use Rattle.ports.proofs.commands.self_test.Statement.{statement}
 use Rattle.ports.proofs.commands.self_test.Tie as tie
 
@@ -38,7 +36,7 @@ put-requires : tie.Need-put-requires
 put-requires c κs = search needs
 
 returns : tie.Need-returns
-returns c = c .put .ensures ∙ ap (lift (put _)) (c .before .before .set-mode .ensures) ∙ simp (c .before .before .before .before .mode .ensures)
+returns c = by-two (c .before .before .set-mode .ensures) (c .put .ensures .change) (cc)
 
 pub self-test-spec : {M : Type 1} → statement M
 self-test-spec =

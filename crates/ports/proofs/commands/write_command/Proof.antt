@@ -1,9 +1,8 @@
--- `ports::commands::write_command` meets its contract. The callees' rules follow one another as in the definition.
+-- `ports::commands::write_command` meets its contract. The changes follow one another as in the definition.
 -- Assumes nothing.
 use borrow.Author.Needs.{needs}
-use mathlib.Core.Path.{ap, sym, _∙_}
-use Rattle.machine.specs.State.{lift}
-use Rattle.machine.specs.Commands.{writeCommand, acts, commandWritten}
+use Rattle.machine.specs.Commands.{writeCommand}
+use Rattle.machine.proofs.Laws.Changed.{by-three}
 use Rattle.ports.proofs.commands.write_command.Statement.{statement}
 use Rattle.ports.proofs.commands.write_command.Tie as tie
 
@@ -18,7 +17,7 @@ act-requires c κs = search needs
 
 returns : tie.Need-returns
 unfolding writeCommand
-returns c = c .act .ensures ∙ ap (acts _) (c .before .before .command-written .ensures ∙ ap (lift (commandWritten _)) (c .before .before .before .before .cut-load .ensures))
+returns c = search by-three
 
 pub write-command-spec : {M : Type 1} → statement M
 write-command-spec =

@@ -1,7 +1,7 @@
--- `ports::data_port::append` meets its contract. The store is the law's.
+-- `ports::data_port::append` meets its contract. The store is the law's: there is room for one more byte.
 -- Assumes nothing.
 use borrow.Author.Needs.{needs}
-use Rattle.machine.proofs.Laws.View.{set-appended}
+use Rattle.machine.proofs.Laws.Changed.{stored-appended}
 use Rattle.ports.proofs.data_port.append.Statement.{statement}
 use Rattle.ports.proofs.data_port.append.Tie as tie
 
@@ -27,7 +27,7 @@ element-write-s-2 : tie.Need-element-write-s-2
 element-write-s-2 c = search needs
 
 returns : tie.Need-returns
-returns c = set-appended (c .before .before .before .args .s .now) (c .before .sized .ensures) _ (c .before .before .before .pre)
+returns c = stored-appended (search needs) (search needs)
 
 pub append-spec : {M : Type 1} → statement M
 append-spec =

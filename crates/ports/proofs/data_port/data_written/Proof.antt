@@ -1,7 +1,7 @@
 -- `ports::data_port::data_written` meets its contract. The store is the law's.
 -- Assumes nothing.
 use borrow.Author.Needs.{needs}
-use Rattle.machine.proofs.Laws.View.{set-flags}
+use Rattle.machine.proofs.Laws.Changed.{stored-dataWritten}
 use Rattle.ports.proofs.data_port.data_written.Statement.{statement}
 use Rattle.ports.proofs.data_port.data_written.Tie as tie
 
@@ -18,7 +18,7 @@ element-write-s : tie.Need-element-write-s
 element-write-s c = search needs
 
 returns : tie.Need-returns
-returns c = set-flags (c .before .before .before .before .args .s .now) (c .before .before .sized .ensures) _ _ (c .with-command .ensures)
+returns c = stored-dataWritten (search needs) (c .with-command .ensures)
 
 pub data-written-spec : {M : Type 1} → statement M
 data-written-spec =

@@ -1,13 +1,16 @@
--- `ports::data_port::load_byte` meets its contract. Its two tests are those of the definition: the code is full where its length is 16.
+-- `ports::data_port::load_byte` meets its contract. Its two tests are the definition's: the code is full where its length is 16.
 -- Assumes nothing.
 use borrow.Author.Needs.{needs}
-use mathlib.Core.Path.{ap, sym, _∙_}
-use borrow.Author.Tests.{eq-eqb, ne-eqb}
-use lib.ListN.{getD, take, drop}
-use Rattle.machine.specs.DataPort.{loadByte, dropped}
-use Rattle.machine.proofs.Laws.View.{code-full, code-room, code-long}
+use Rattle.machine.proofs.Laws.Changed.{by-rule, by-two}
+use Rattle.machine.proofs.Laws.DataPort.{loadByte-end, loadByte-full, loadByte-room}
 use Rattle.ports.proofs.data_port.load_byte.Statement.{statement}
 use Rattle.ports.proofs.data_port.load_byte.Tie as tie
+
+-- `ports::data_port::load_byte` meets its contract. Its two tests are the definition's: the code is full where its length is 16.
+-- Assumes nothing.
+
+-- `ports::data_port::load_byte` meets its contract. Its two tests are the definition's: the code is full where its length is 16.
+-- Assumes nothing.
 
 sized-requires : tie.Need-sized-requires
 sized-requires c κs = search needs
@@ -16,8 +19,7 @@ settle-requires : tie.Need-settle-requires
 settle-requires c κs = search needs
 
 returns : tie.Need-returns
-unfolding loadByte
-returns c = c .settle .ensures ∙ simp (eq-eqb _ _ (c .before .before .if1 .taken))
+returns c = search (by-rule, loadByte-end)
 
 element-copy-out-if2 : tie.Need-element-copy-out-if2
 element-copy-out-if2 c = search needs
@@ -29,17 +31,13 @@ drop-code-requires : tie.Need-drop-code-requires
 drop-code-requires c κs = search needs
 
 returns-2 : tie.Need-returns-2
-unfolding loadByte
-returns-2 c = c .drop-code .ensures ∙ ap dropped (c .before .before .settle2 .ensures)
-    ∙ simp (ne-eqb _ _ (c .before .before .before .before .before .before .if1 .left), code-full (getD (c .before .before .before .before .before .before .before .before .before .args .s .now) 10 0) (take 16 (drop 12 (c .before .before .before .before .before .before .before .before .before .args .s .now))) (code-long (c .before .before .before .before .before .before .before .before .before .args .s .now) (c .before .before .before .before .before .before .before .sized .ensures)) (c .before .before .before .before .if2 .taken))
+returns-2 c = search (by-two, loadByte-full)
 
 append-requires : tie.Need-append-requires
 append-requires c κs = search needs
 
 returns-3 : tie.Need-returns-3
-unfolding loadByte
-returns-3 c = c .append .ensures
-    ∙ simp (ne-eqb _ _ (c .before .before .before .before .if1 .left), code-room (getD (c .before .before .before .before .before .before .before .args .s .now) 10 0) (take 16 (drop 12 (c .before .before .before .before .before .before .before .args .s .now))) (code-long (c .before .before .before .before .before .before .before .args .s .now) (c .before .before .before .before .before .sized .ensures)) (c .before .before .if2 .left))
+returns-3 c = search (by-rule, loadByte-room)
 
 pub load-byte-spec : {M : Type 1} → statement M
 load-byte-spec =

@@ -1,7 +1,7 @@
 -- `ports::data_port::send` meets its contract. The store is the law's.
 -- Assumes nothing.
 use borrow.Author.Needs.{needs}
-use Rattle.machine.proofs.Laws.View.{set-sending}
+use Rattle.machine.proofs.Laws.Changed.{stored-sending}
 use Rattle.ports.proofs.data_port.send.Statement.{statement}
 use Rattle.ports.proofs.data_port.send.Tie as tie
 
@@ -15,7 +15,7 @@ element-write-s-2 : tie.Need-element-write-s-2
 element-write-s-2 c = search needs
 
 returns : tie.Need-returns
-returns c = set-sending (c .before .before .args .s .now) (c .sized .ensures) _ _
+returns c = stored-sending (search needs)
 
 pub send-spec : {M : Type 1} → statement M
 send-spec = tie.close (tie.spec sized-requires element-write-s element-write-s-2 returns)

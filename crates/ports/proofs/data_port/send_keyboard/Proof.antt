@@ -1,9 +1,7 @@
--- `ports::data_port::send_keyboard` meets its contract. The callees' rules follow one another.
+-- `ports::data_port::send_keyboard` meets its contract. The two changes follow one another.
 -- Assumes nothing.
 use borrow.Author.Needs.{needs}
-use mathlib.Core.Path.{ap, sym, _∙_}
-use Rattle.machine.specs.State.{lift}
-use Rattle.machine.specs.DataPort.{send}
+use Rattle.machine.proofs.Laws.Changed.{by-two}
 use Rattle.ports.proofs.data_port.send_keyboard.Statement.{statement}
 use Rattle.ports.proofs.data_port.send_keyboard.Tie as tie
 
@@ -14,7 +12,7 @@ send-requires : tie.Need-send-requires
 send-requires c κs = search needs
 
 returns : tie.Need-returns
-returns c = c .send .ensures ∙ ap (lift (send _ _)) (c .before .before .enable-keyboard .ensures)
+returns c = search by-two
 
 pub send-keyboard-spec : {M : Type 1} → statement M
 send-keyboard-spec = tie.close (tie.spec enable-keyboard-requires send-requires returns)

@@ -1,7 +1,7 @@
 -- `ports::data_port::settle` meets its contract. The store is the law's.
 -- Assumes nothing.
 use borrow.Author.Needs.{needs}
-use Rattle.machine.proofs.Laws.View.{set-settled}
+use Rattle.machine.proofs.Laws.Changed.{stored-settled}
 use Rattle.ports.proofs.data_port.settle.Statement.{statement}
 use Rattle.ports.proofs.data_port.settle.Tie as tie
 
@@ -15,7 +15,7 @@ element-write-s-2 : tie.Need-element-write-s-2
 element-write-s-2 c = search needs
 
 returns : tie.Need-returns
-returns c = set-settled (c .before .before .args .s .now) (c .sized .ensures)
+returns c = stored-settled (search needs)
 
 pub settle-spec : {M : Type 1} → statement M
 settle-spec = tie.close (tie.spec sized-requires element-write-s element-write-s-2 returns)

@@ -1,7 +1,8 @@
--- `ports::data_port::write_cell` meets its contract. A cell within the RAM is set; one past its end leaves the list as it is.
+-- `ports::data_port::write_cell` meets its contract. The store is the law's; past the RAM nothing is stored.
 -- Assumes nothing.
 use borrow.Author.Needs.{needs}
-use Rattle.machine.proofs.Laws.View.{set-cell, set-none}
+use Rattle.machine.proofs.Laws.Changed.{stored-none, stored-cell, by-rule}
+use mathlib.Core.Path.{refl}
 use Rattle.ports.proofs.data_port.write_cell.Statement.{statement}
 use Rattle.ports.proofs.data_port.write_cell.Tie as tie
 
@@ -21,10 +22,10 @@ element-write-s : tie.Need-element-write-s
 element-write-s c = search needs
 
 returns : tie.Need-returns
-returns c = set-cell (c .before .before .before .before .args .s .now) (c .before .before .sized .ensures) _ _ (c .if1 .taken)
+returns c = by-rule (stored-cell (search needs) (c .if1 .taken)) refl
 
 returns-2 : tie.Need-returns-2
-returns-2 c = set-none (c .before .before .before .before .args .s .now) (c .before .before .sized .ensures) _ _ (c .if1 .left)
+returns-2 c = by-rule (stored-none (search needs) (c .if1 .left)) refl
 
 pub write-cell-spec : {M : Type 1} → statement M
 write-cell-spec =

@@ -1,10 +1,8 @@
--- `ports::data_port::write_data` meets its contract. The pending code's test picks the case, and the callees' rules follow one another.
+-- `ports::data_port::write_data` meets its contract. The pending code's test is the definition's, and the changes follow one another.
 -- Assumes nothing.
 use borrow.Author.Needs.{needs}
-use mathlib.Core.Path.{ap, sym, _∙_}
-use borrow.Author.Tests.{eq-eqb, ne-eqb}
-use Rattle.machine.specs.State.{lift}
-use Rattle.machine.specs.DataPort.{writeData, loadByte, plainData, settled}
+use Rattle.machine.proofs.Laws.Changed.{by-two, by-three}
+use Rattle.machine.proofs.Laws.DataPort.{writeData-load, writeData-plain}
 use Rattle.ports.proofs.data_port.write_data.Statement.{statement}
 use Rattle.ports.proofs.data_port.write_data.Tie as tie
 
@@ -24,13 +22,10 @@ settle-requires : tie.Need-settle-requires
 settle-requires c κs = search needs
 
 returns : tie.Need-returns
-unfolding writeData
-returns c = c .load-byte .ensures ∙ ap (loadByte _) (c .before .before .before .data-written .ensures) ∙ simp (eq-eqb _ _ (c .before .before .if1 .taken))
+returns c = search (by-two, writeData-load)
 
 returns-2 : tie.Need-returns-2
-unfolding writeData
-returns-2 c = c .settle .ensures ∙ ap (lift settled) (c .before .before .plain-data .ensures ∙ ap (lift (plainData _)) (c .before .before .before .before .before .data-written .ensures))
-    ∙ simp (ne-eqb _ _ (c .before .before .before .before .if1 .left))
+returns-2 c = search (by-three, writeData-plain)
 
 pub write-data-spec : {M : Type 1} → statement M
 write-data-spec =

@@ -12,8 +12,7 @@ digit-requires-2 : tie.Need-digit-requires-2
 digit-requires-2 c κs = search needs
 
 returns : tie.Need-returns
-returns c =
-    hexByte-digits (c .before .before .args .byte) (c .before .digit .result) (c .digit2 .result) (c .before .digit .ensures) (c .digit2 .ensures)
+returns c = search hexByte-digits
 
 pub two-digits-spec : {M : Type 1} → statement M
 two-digits-spec = tie.close (tie.spec digit-requires digit-requires-2 returns)

@@ -58,11 +58,7 @@ write-line-returns : (t : ℕ) → write-line-lts.Need-returns (
   write-line-below t,
   write-line.Post,
 ) (write-line-at t) write-line.Post
-write-line-returns t c =
-    let w = c .before .before in
-    let one = w .before .before .before .if1 .taken in
-    let a = w .before .before .before .before .before .before .args in
-    line-written (a .bytes .now) (a .out .now) (w .write-field .last .1 .1 .0) one (w .write-field .ensures)
+write-line-returns t c = search line-written
 
 write-line-shared-slice-read-write-field-2 :
     (t : ℕ) → write-line-lts.Need-shared-slice-read-write-field-2 (
@@ -155,13 +151,7 @@ write-line-returns-2 : (t : ℕ) → write-line-lts.Need-returns-2 (
   write-line-below t,
   write-line.Post,
 ) (write-line-at t) write-line.Post
-write-line-returns-2 t c =
-    let w = c .before .before .write-line in
-    let b = c .before .before .before .before .before .before .before in
-    let f = b .write-field2 in
-    let n = b .before .before .before in
-    let a = n .before .before .before .args in
-    line-handed-on (a .bytes .now) (a .out .now) (f .last .1 .1 .0) (w .last .1 .0) (omega (arith, n .if1 .left, n .before .before .before .pre)) (f .ensures) (w .ensures)
+write-line-returns-2 t c = search line-handed-on
 
 pub +write-line-spec : {M : Type 1} → statement M
 +write-line-spec = close μ-write-line λ t. write-line-lts.spec (

@@ -33,9 +33,7 @@ write-lines-returns : (t : ℕ) → write-lines-lts.Need-returns (
   write-lines-below t,
   write-lines.Post,
 ) (write-lines-at t) write-lines.Post
-write-lines-returns t c =
-    let a = c .before .before .before .args in
-    lines-written (a .count) (a .answers .now) (a .out .now) (c .if1 .taken)
+write-lines-returns t c = search lines-written
 
 write-lines-slice-aggregate-write-line : (t : ℕ) → write-lines-lts.Need-slice-aggregate-write-line (
   write-line-reads.Asked,
@@ -135,14 +133,7 @@ write-lines-returns-2 : (t : ℕ) → write-lines-lts.Need-returns-2 (
   write-lines-below t,
   write-lines.Post,
 ) (write-lines-at t) write-lines.Post
-write-lines-returns-2 t c =
-    let w = c .before .before .write-lines in
-    let b = c .before .before .before .before .before .before .before in
-    let f = b .write-line in
-    let n = b .before .before .before in
-    let s = n .before .before .before in
-    let a = s .args in
-    lines-handed-on (a .count) (a .answers .now) (a .out .now) (f .last .1 .0) (w .last .1 .1 .0) (n .if1 .left) (omega (arith, s .pre)) (f .ensures) (w .ensures)
+write-lines-returns-2 t c = search lines-handed-on
 
 pub +write-lines-spec : {M : Type 1} → statement M
 +write-lines-spec = close μ-write-lines λ t. write-lines-lts.spec (

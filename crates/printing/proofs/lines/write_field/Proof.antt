@@ -29,9 +29,7 @@ same-length : tie.Need-same-length
 same-length c = search needs
 
 returns : tie.Need-returns
-returns c =
-    let a = c .before .before .args in
-    field-stores (c .two-digits .result) (a .byte) (a .after) (a .out .now) (c .two-digits .ensures) (c .before .before .pre)
+returns c = search field-stores
 
 pub write-field-spec : {M : Type 1} → statement M
 write-field-spec =

@@ -1,16 +1,19 @@
--- `printing::page::is_refused` meets its contract: its two tests are those of check 7.
+-- `printing::page::is_refused` meets its contract. The number is that of check 7, with no space looked at.
 -- Assumes nothing.
-use borrow.Author.Tests.{eq-eqb, ne-eqb}
-use mathlib.Core.Path.{sym, _∙_}
-use Rattle.printing.proofs.Laws.Page.{refusedLength-test}
+use borrow.Author.Needs.{needs}
+use mathlib.Core.Path.{ap}
+use Prim.Native.Nat.{ℕ}
+use lib.Dec.{eqb}
+use Rattle.printing.specs.Page.{refusedLength}
 use Rattle.printing.proofs.page.is_refused.Statement.{statement}
 use Rattle.printing.proofs.page.is_refused.Tie as tie
 
-returns : tie.Need-returns
-returns c = sym (refusedLength-test (c .before .args .length) ∙ simp (ne-eqb _ _ (c .if1 .taken)))
+list-refusal-requires : tie.Need-list-refusal-requires
+list-refusal-requires c κs = search needs
 
-returns-2 : tie.Need-returns-2
-returns-2 c = sym (refusedLength-test (c .before .args .length) ∙ simp (eq-eqb _ _ (c .if1 .left)))
+returns : tie.Need-returns
+unfolding refusedLength
+returns c = ap (λ (n : ℕ). eqb n 7) (c .list-refusal .ensures)
 
 pub is-refused-spec : {M : Type 1} → statement M
-is-refused-spec = tie.close (tie.spec returns returns-2)
+is-refused-spec = tie.close (tie.spec list-refusal-requires returns)

@@ -36,12 +36,7 @@ same-length c = search needs
 
 returns : tie.Need-returns
 unfolding header
-returns c =
-    let w = c .before .before .write-lines in
-    let f = c .before .before .before .before .before .before in
-    let s = f .before .before .before .before .before in
-    let a = s .args in
-    (refl, page-handed-on (a .count) (a .answers .now) (a .out .now) (f .copy .last .1 .0) (w .last .1 .1 .0) (s .pre .0) (f .copy .ensures .1) (w .ensures))
+returns c = (refl, search page-handed-on)
 
 pub print-answers-spec : {M : Type 1} → statement M
 print-answers-spec =

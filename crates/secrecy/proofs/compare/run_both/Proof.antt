@@ -18,12 +18,7 @@ same-length-2 : tie.Need-same-length-2
 same-length-2 c = search needs
 
 returns : tie.Need-returns
-returns c =
-    let one = c .before .before .before .before .before .before in
-    let a = one .before .before .before .before .before .before .args in
-    let other = c .before .before .run-fresh2 in
-    compared (a .one .now) (a .answers .now) (one .run-fresh .last .1 .0) (a .other .now) (a .others .now) (other .last .1 .0) _
-    (one .run-fresh .ensures) (other .ensures)
+returns c = search compared
 
 pub run-both-spec : {M : Type 1} → statement M
 run-both-spec =

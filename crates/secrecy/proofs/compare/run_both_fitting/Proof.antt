@@ -1,7 +1,7 @@
 -- `secrecy::compare::run_both_fitting` meets its contract. Each run is pinned to the machine from fresh, and the theorem on paired lists gives equal answers.
 -- Assumes nothing.
 use borrow.Author.Needs.{needs}
-use Rattle.secrecy.proofs.Compared.{compared-rest}
+use Rattle.secrecy.proofs.Compared.{compared-fitting}
 use Rattle.secrecy.proofs.compare.run_both_fitting.Statement.{statement}
 use Rattle.secrecy.proofs.compare.run_both_fitting.Tie as tie
 
@@ -24,8 +24,7 @@ same-length-2 : tie.Need-same-length-2
 same-length-2 c = search needs
 
 returns : tie.Need-returns
-returns c = compared-rest (c .before .before .before .before .before .before .before .before .before .before .before .start .result) (c .before .before .before .before .before .start2 .result) (c .before .before .before .before .before .before .before .before .before .before .before .before .before .before .before .before .args .one .now) (c .before .before .before .before .before .before .before .before .before .before .before .before .before .before .before .before .args .answers .now) (c .before .before .before .before .before .before .before .before .run-fitting .last .1 .1 .0) (c .before .before .before .before .before .before .before .before .before .before .before .before .before .before .before .before .args .other .now) (c .before .before .before .before .before .before .before .before .before .before .before .before .before .before .before .before .args .others .now) (c .before .before .run-fitting2 .last .1 .1 .0)
-    (c .before .before .before .before .before .before .before .before .run-fitting .last .0) (c .before .before .run-fitting2 .last .0) (c .before .before .before .before .before .before .before .before .before .before .before .start .ensures) (c .before .before .before .before .before .start2 .ensures) (c .before .before .before .before .before .before .before .before .run-fitting .ensures) (c .before .before .run-fitting2 .ensures)
+returns c = search compared-fitting
 
 pub run-both-fitting-spec : {M : Type 1} → statement M
 run-both-fitting-spec =

@@ -1,0 +1,26 @@
+-- `devices::errors::set_errors` meets its contract. The store is the law's.
+-- Assumes nothing.
+use borrow.Author.Needs.{needs}
+use Rattle.machine.proofs.Laws.Changed.{stored-errors}
+use Rattle.devices.proofs.errors.set_errors.Statement.{statement}
+use Rattle.devices.proofs.errors.set_errors.Tie as tie
+
+sized-requires : tie.Need-sized-requires
+sized-requires c κs = search needs
+
+element-copy-out-flags : tie.Need-element-copy-out-flags
+element-copy-out-flags c = search needs
+
+with-errors-requires : tie.Need-with-errors-requires
+with-errors-requires c κs = search needs
+
+element-write-s : tie.Need-element-write-s
+element-write-s c = search needs
+
+returns : tie.Need-returns
+returns c = stored-errors (search needs) (c .with-errors .ensures)
+
+pub set-errors-spec : {M : Type 1} → statement M
+set-errors-spec =
+    tie.close
+    (tie.spec sized-requires element-copy-out-flags with-errors-requires element-write-s returns)

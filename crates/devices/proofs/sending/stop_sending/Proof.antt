@@ -1,0 +1,21 @@
+-- `devices::sending::stop_sending` meets its contract. The stores are the law's.
+-- Assumes nothing.
+use borrow.Author.Needs.{needs}
+use Rattle.machine.proofs.Laws.Changed.{stored-sending}
+use Rattle.devices.proofs.sending.stop_sending.Statement.{statement}
+use Rattle.devices.proofs.sending.stop_sending.Tie as tie
+
+sized-requires : tie.Need-sized-requires
+sized-requires c κs = search needs
+
+element-write-s : tie.Need-element-write-s
+element-write-s c = search needs
+
+element-write-s-2 : tie.Need-element-write-s-2
+element-write-s-2 c = search needs
+
+returns : tie.Need-returns
+returns c = stored-sending (search needs)
+
+pub stop-sending-spec : {M : Type 1} → statement M
+stop-sending-spec = tie.close (tie.spec sized-requires element-write-s element-write-s-2 returns)

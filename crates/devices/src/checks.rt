@@ -1,0 +1,61 @@
+// The checks that refuse what a device or the wire brings, by their numbers; 0 is none.
+use machine::events::value;
+use machine::lines::input_full;
+use machine::lines::keyboard_off;
+use machine::lines::mouse_off;
+use machine::lines::output_full;
+use machine::state::State;
+ghost use mathlib.Core.Path.{_≡_};
+ghost use mathlib.Core.Bool.{cond, _||_};
+ghost use lib.Dec.{ltb};
+ghost use Rattle.machine.specs.State.{Public};
+ghost use Rattle.machine.specs.Lines.{inputFull};
+ghost use Rattle.machine.specs.Events.{event, valueOf, refusal};
+ghost use Rattle.machine.specs.View.{public};
+
+// A frame: its device is off, the output buffer is full, or a byte is being sent.
+fn frame_refusal(s: &State, off: bool, low: u8, high: u8) -> u8
+    ensures { λ r. ⌜ (let p = public (now (s .entry)) in r ≡ cond (ltb 2047 (valueOf low high)) 2 (cond (off || (p .output .full || inputFull p)) 5 0)) ⌝ }
+{
+    if 2047 < value(low, high) {
+        2
+    } else if off | (output_full(s) | input_full(s)) {
+        5
+    } else {
+        0
+    }
+}
+
+// Kind 4.
+pub fn keyboard_refusal(s: &State, low: u8, high: u8) -> u8
+    ensures { λ r. ⌜ r ≡ refusal (public (now (s .entry))) (event 4 low high) ⌝ }
+{
+    frame_refusal(s, keyboard_off(s), low, high)
+}
+
+// Kind 5.
+pub fn mouse_refusal(s: &State, low: u8, high: u8) -> u8
+    ensures { λ r. ⌜ r ≡ refusal (public (now (s .entry))) (event 5 low high) ⌝ }
+{
+    frame_refusal(s, mouse_off(s), low, high)
+}
+
+// Kinds 6 and 7, the end of a byte being sent.
+pub fn end_refusal(s: &State, low: u8, high: u8) -> u8
+    ensures { λ r. ⌜ (let p = public (now (s .entry)) in (r ≡ refusal p (event 6 low high)) × (r ≡ refusal p (event 7 low high))) ⌝ }
+{
+    if 0 < value(low, high) {
+        2
+    } else if input_full(s) {
+        0
+    } else {
+        6
+    }
+}
+
+// Kind 8.
+pub fn pins_refusal(low: u8, high: u8) -> u8
+    ensures { λ r. ⌜ ((p : Public) → r ≡ refusal p (event 8 low high)) ⌝ }
+{
+    if 255 < value(low, high) { 2 } else { 0 }
+}

@@ -1,0 +1,64 @@
+// Kind 5, a frame from the mouse.
+use crate::checks::mouse_refusal;
+use crate::errors::ERROR;
+use crate::errors::set_errors;
+use machine::events::Told;
+use machine::events::quiet;
+use machine::events::value;
+use machine::lines::locked;
+use machine::lines::put_mouse;
+use machine::state::State;
+use translation::frames::Verdict;
+use translation::frames::judge;
+ghost use mathlib.Core.Bool.{false};
+ghost use Rattle.translation.specs.Frames.{verdict};
+ghost use Rattle.machine.specs.State.{lift};
+ghost use Rattle.machine.specs.Frames as frame;
+ghost use Rattle.machine.specs.Events.{event};
+ghost use Rattle.machine.specs.Changed.{Changed};
+ghost use Rattle.machine.specs.Told.{EventTold};
+
+// A byte for the host, unless locked.
+fn put_from_mouse(s: &mut State, byte: u8)
+    ensures { λ _. ⌜ Changed (lift (frame.mousePut byte)) (now (s .entry)) (now (s .exit)) ⌝ }
+{
+    if locked(s) {
+        return;
+    }
+    put_mouse(s, byte);
+}
+
+fn damaged_mouse(s: &mut State, terr: bool, perr: bool)
+    ensures { λ _. ⌜ Changed (lift (λ p. frame.mousePut 0xFF (frame.errorsSet terr perr p))) (now (s .entry)) (now (s .exit)) ⌝ }
+{
+    set_errors(s, terr, perr);
+    put_from_mouse(s, ERROR);
+}
+
+fn sound_mouse(s: &mut State, byte: u8)
+    ensures { λ _. ⌜ Changed (lift (λ p. frame.mousePut byte (frame.errorsSet false false p))) (now (s .entry)) (now (s .exit)) ⌝ }
+{
+    set_errors(s, false, false);
+    put_from_mouse(s, byte);
+}
+
+// What the frame does.
+fn mouse_frame(s: &mut State, v: Verdict)
+    ensures { λ _. ⌜ Changed (lift (frame.mouseFrame (verdict v))) (now (s .entry)) (now (s .exit)) ⌝ }
+{
+    match v {
+        Verdict::Sound(byte) => sound_mouse(s, byte),
+        Verdict::Parity => damaged_mouse(s, false, true),
+        Verdict::Broken => damaged_mouse(s, true, false),
+    }
+}
+
+pub fn mouse_event(s: &mut State, low: u8, high: u8) -> Told
+    ensures { λ r. ⌜ EventTold (now (s .entry)) (event 5 low high) (now (s .exit)) r ⌝ }
+{
+    let number = mouse_refusal(s, low, high);
+    if number == 0 {
+        mouse_frame(s, judge(value(low, high)));
+    }
+    quiet(number)
+}

@@ -1,0 +1,260 @@
+-- How changes of the state follow one another, and each store that the program makes as a change by a rule. Assumes nothing.
+use mathlib.Core.Path.{_≡_, refl, ap, sym, subst, _∙_}
+use mathlib.Core.Bool.{Bool, true, false, not, _&&_, false≢true}
+use mathlib.Core.List.{List, [], _∷_}
+use Prim.Native.Nat.{ℕ, zero, suc, _+_, _%_, _≤_, _<_}
+use native.Mathlib.Omega.{arith}
+use lib.Dec.{eqb, ltb}
+use lib.ListN.{length, getD, set, length-set}
+use lib.Seq.{getD-set-same, getD-set-other}
+use native.Mathlib.Nat.{not-suc-le-zero}
+use borrow.Author.Tests.{ltb-true, eqb-true, eqb-false}
+use Rattle.translation.specs.Bits.{bit}
+use Rattle.translation.proofs.Tests.{split, and-true}
+use Rattle.machine.specs.State.{Machine, lift, withOutput, withRam}
+use Rattle.machine.specs.Lines.{withMode}
+use Rattle.machine.specs.DataPort.{settled, dataWritten, send, latched, dropped, appended}
+use Rattle.machine.specs.Commands.{pendingOf, cellNamed, commandWritten, overlaid, closed}
+use Rattle.machine.specs.Frames.{errorsSet, breaking, positioned, opened, pinned}
+use Rattle.machine.specs.Events.{emptied}
+use Rattle.machine.specs.Flags as flags
+use Rattle.machine.specs.Flags.{Flags, flagsOf}
+use Rattle.machine.specs.View.{stateLength, at, view}
+use Rattle.machine.specs.Kept.{Kept}
+use Rattle.machine.specs.Changed.{Changed, KeptChange}
+use Rattle.machine.proofs.Laws.View as stores
+use Rattle.machine.proofs.Laws.View.{cleared, set-dropped}
+use Rattle.machine.proofs.Laws.Body.{Tidy, tidy-body, body-tidy}
+
+-- ---- Changed
+pub changed : {rule : Machine → Machine} {s s′ : List ℕ} → length s ≡ stateLength → view s′ ≡ rule (view s) → (Tidy s → Tidy s′) → Changed rule s s′
+changed {s = s} {s′ = s′} long machine tidy =
+    record { machine = machine; bytes = λ e. tidy-body s′ (tidy (body-tidy s long e)) }
+
+-- one after the other
+pub chain : {f g : Machine → Machine} {s t u : List ℕ} → Changed f s t → Changed g t u → Changed (λ m. g (f m)) s u
+chain {g = g} one other = record { machine = other .machine ∙ ap g (one .machine); bytes = λ e. other .bytes (one .bytes e) }
+
+-- a rule that does the same to this machine
+pub by-rule : {f g : Machine → Machine} {s t : List ℕ} → Changed f s t → f (view s) ≡ g (view s) → Changed g s t
+by-rule one same = record { machine = one .machine ∙ same; bytes = one .bytes }
+
+-- several changes, and a rule that does the same to this machine as theirs
+pub by-two : {f g h : Machine → Machine} {s t u : List ℕ} → Changed f s t → Changed g t u → g (f (view s)) ≡ h (view s) → Changed h s u
+by-two one other same = by-rule (chain one other) same
+
+pub by-three : {f g h k : Machine → Machine} {s t u v : List ℕ} → Changed f s t → Changed g t u → Changed h u v →
+    h (g (f (view s))) ≡ k (view s) →
+    Changed k s v
+by-three one two three same = by-rule (chain (chain one two) three) same
+
+pub by-four : {f g h k l : Machine → Machine} {s t u v w : List ℕ} → Changed f s t → Changed g t u → Changed h u v → Changed k v w →
+    k (h (g (f (view s)))) ≡ l (view s) →
+    Changed l s w
+by-four one two three four same = by-rule (chain (chain (chain one two) three) four) same
+
+-- nothing is stored
+pub untouched : {f : Machine → Machine} {s : List ℕ} → view s ≡ f (view s) → Changed f s s
+untouched same = record { machine = same; bytes = λ e. e }
+
+-- ---- KeptChange
+pub kept-change : {rule : Machine → Machine} {s t : List ℕ} → Changed rule s t → (Kept (view s) → Kept (rule (view s))) → KeptChange rule s t
+kept-change one keeps = record { change = one; kept = λ k. subst Kept (sym (one .machine)) (keeps k) }
+
+-- ---- a store that keeps what stands for nothing 0
+pub record Fits (i v : ℕ) : Type 0 where
+  pub flags : i ≡ 1 → v < 128
+  pub latches : i ≡ 3 → v < 4
+  pub overlay : i ≡ 6 → v < 2
+  pub size : i ≡ 10 → ⊥
+  pub code : (k : ℕ) → k < 16 → i ≡ 12 + k → ⊥
+
+bound-set : (s : List ℕ) (i v j b : ℕ) → (i ≡ j → v < b) → getD s j 0 < b → getD (set s i v) j 0 < b
+bound-set [] i v j b new old = old
+bound-set (x ∷ s) zero v zero b new old = new refl
+bound-set (x ∷ s) zero v (suc j) b new old = old
+bound-set (x ∷ s) (suc i) v zero b new old = old
+bound-set (x ∷ s) (suc i) v (suc j) b new old = bound-set s i v j b (λ e. new (ap suc e)) old
+
+pub tidy-set : {i v : ℕ} {s : List ℕ} → Fits i v → Tidy s → Tidy (set s i v)
+tidy-set {i} {v} {s} f t =
+    let size : at (set s i v) 10 ≡ at s 10 = getD-set-other s i 10 v 0 (λ e. f .size (sym e)) in
+    record {
+      long = length-set s i v ∙ t .long;
+      flags = bound-set s i v 1 128 (f .flags) (t .flags);
+      latches = bound-set s i v 3 4 (f .latches) (t .latches);
+      overlay = bound-set s i v 6 2 (f .overlay) (t .overlay);
+      size = rw size (t .size);
+      rest = λ k low high. getD-set-other s i (12 + k) v 0 (λ e. f .code k high (sym e)) ∙ t .rest k (omega (arith, size)) high;
+    }
+
+-- the bytes of which every value stands for something
+abbrev unpadded : ℕ → Bool
+unpadded i = not (eqb i 1) && (not (eqb i 3) && (not (eqb i 6) && not (eqb i 10)))
+
+abbrev pub free : ℕ → Bool
+free i = unpadded i && ltb i 12
+
+pub fits-free : {v : ℕ} (i : ℕ) → free i ≡ true → Fits i v
+fits-free i passed =
+    let other : (j : ℕ) → free j ≡ false → i ≡ j → ⊥ = λ j no e. false≢true (sym no ∙ ap free (sym e) ∙ passed) in
+    record {
+      flags = λ e. absurd (other 1 refl e);
+      latches = λ e. absurd (other 3 refl e);
+      overlay = λ e. absurd (other 6 refl e);
+      size = other 10 refl;
+      code = λ k h e. absurd (omega (arith, ltb-true i 12 (and-true (unpadded i) (ltb i 12) passed .1)));
+    }
+
+pub fits-cell : {v : ℕ} (k : ℕ) → Fits (28 + k) v
+fits-cell k = record { flags = λ e. omega arith; latches = λ e. omega arith; overlay = λ e. omega arith; size = λ e. omega arith; code = λ j h e. omega arith }
+
+fits-flags : {v : ℕ} → v < 128 → Fits 1 v
+fits-flags h = record { flags = λ e. h; latches = λ e. omega arith; overlay = λ e. omega arith; size = λ e. omega arith; code = λ j k e. omega arith }
+
+fits-latches : {v : ℕ} → v < 4 → Fits 3 v
+fits-latches h = record { flags = λ e. omega arith; latches = λ e. h; overlay = λ e. omega arith; size = λ e. omega arith; code = λ j k e. omega arith }
+
+fits-overlay : {v : ℕ} → v < 2 → Fits 6 v
+fits-overlay h = record { flags = λ e. omega arith; latches = λ e. omega arith; overlay = λ e. h; size = λ e. omega arith; code = λ j k e. omega arith }
+
+-- ---- bytes of which every value stands for something
+module _ {s : List ℕ} (long : length s ≡ stateLength) where
+  pub stored-pins : {v : ℕ} → Changed (lift (pinned v)) s (set s 2 v)
+  stored-pins {v} = changed long (stores.set-pins s long v) (tidy-set (fits-free 2 refl))
+
+  pub stored-settled : Changed (lift settled) s (set (set s 4 0) 5 0)
+  stored-settled =
+      changed long (stores.set-settled s long) (λ t. tidy-set (fits-free 5 refl) (tidy-set (fits-free 4 refl) t))
+
+  pub stored-sending : {to v : ℕ} → Changed (lift (send to v)) s (set (set s 8 to) 9 v)
+  stored-sending {to} {v} =
+      changed long (stores.set-sending s long to v) (λ t. tidy-set (fits-free 9 refl) (tidy-set (fits-free 8 refl) t))
+
+  pub stored-position : {k : ℕ} → Changed (positioned k) s (set s 11 k)
+  stored-position {k} = changed long (stores.set-position s long k) (tidy-set (fits-free 11 refl))
+
+  pub stored-cell : {k v : ℕ} → k < 32 → Changed (lift (λ p. withRam p (set (p .ram) k v))) s (set s (28 + k) v)
+  stored-cell {k} {v} h = changed long (stores.set-cell s long k v h) (tidy-set (fits-cell k))
+
+  pub stored-none : {k v : ℕ} → 32 ≤ k → Changed (lift (λ p. withRam p (set (p .ram) k v))) s s
+  stored-none {k} {v} h = untouched (stores.set-none s long k v h)
+
+  pub stored-mode : {v : ℕ} → Changed (lift (withMode v)) s (set s 28 v)
+  stored-mode = stored-cell {k = 0} (omega arith)
+
+  -- ---- latches and overlay
+  pub stored-latches : (v : ℕ) → Changed (lift (latched v)) s (set s 3 (v % 4))
+  stored-latches v =
+      let low : bit (v % 4) 0 ≡ bit v 0 = omega arith in
+      let high : bit (v % 4) 1 ≡ bit v 1 = omega arith in
+      changed long (stores.set-latches s long (v % 4) ∙ rw (low, high))
+      (tidy-set (fits-latches (omega arith)))
+
+  pub stored-overlay : {n : ℕ} → Changed (lift (overlaid n)) s (set (set s 6 1) 7 n)
+  stored-overlay {n} =
+      changed long (stores.set-overlay s long n)
+      (λ t. tidy-set (fits-free 7 refl) (tidy-set (fits-overlay (omega arith)) t))
+
+-- ---- flags: f is the flags' byte with some of them replaced
+abbrev pub Reflagged : List ℕ → ℕ → Flags → Type 0
+Reflagged s f x = (flagsOf f ≡ x) × (at s 1 < 128 → f < 128)
+
+tidy-flags : {s : List ℕ} {f : ℕ} → (at s 1 < 128 → f < 128) → Tidy s → Tidy (set s 1 f)
+tidy-flags low t = tidy-set (fits-flags (low (t .flags))) t
+
+module _ {s : List ℕ} {f : ℕ} (long : length s ≡ stateLength) where
+  pub stored-put : {b : ℕ} {mouse : Bool} → Reflagged s f (flags.withOutput true mouse (flagsOf (at s 1))) →
+      Changed (lift (λ p. withOutput p (record { byte = b; full = true; mouse = mouse }))) s (set (set s 1 f) 0 b)
+  stored-put {b} h =
+      changed long (stores.set-output s long f b _ (h .0))
+      (λ t. tidy-set (fits-free 0 refl) (tidy-flags (h .1) t))
+
+  pub stored-emptied : Reflagged s f (flags.withOutput false false (flagsOf (at s 1))) → Changed (lift emptied) s (set s 1 f)
+  stored-emptied h = changed long (stores.set-flags s long f _ (h .0)) (tidy-flags (h .1))
+
+  pub stored-dataWritten : Reflagged s f (flags.withCommand false (flagsOf (at s 1))) → Changed (lift dataWritten) s (set s 1 f)
+  stored-dataWritten h = changed long (stores.set-flags s long f _ (h .0)) (tidy-flags (h .1))
+
+  pub stored-errors : {t e : Bool} → Reflagged s f (flags.withErrors t e (flagsOf (at s 1))) → Changed (lift (errorsSet t e)) s (set s 1 f)
+  stored-errors h = changed long (stores.set-flags s long f _ (h .0)) (tidy-flags (h .1))
+
+  pub stored-breaks : {b : Bool} → Reflagged s f (flags.withBreaks b (flagsOf (at s 1))) → Changed (lift (breaking b)) s (set s 1 f)
+  stored-breaks h = changed long (stores.set-flags s long f _ (h .0)) (tidy-flags (h .1))
+
+  pub stored-closed : Reflagged s f (flags.withLocked true (flagsOf (at s 1))) → Changed closed s (set (set s 1 f) 11 0)
+  stored-closed h =
+      changed long (stores.set-closed s long f _ (h .0)) (λ t. tidy-set (fits-free 11 refl) (tidy-flags (h .1) t))
+
+  pub stored-opened : Reflagged s f (flags.withLocked false (flagsOf (at s 1))) → Changed opened s (set (set s 1 f) 11 0)
+  stored-opened h =
+      changed long (stores.set-closed s long f _ (h .0)) (λ t. tidy-set (fits-free 11 refl) (tidy-flags (h .1) t))
+
+  -- a command written: flags, pending code, cell, and no overlay
+  pub stored-command : (c : ℕ) {code cell : ℕ} → Reflagged s f (flags.withCommand true (flagsOf (at s 1))) → code ≡ pendingOf c → cell ≡ cellNamed c →
+      Changed (lift (commandWritten c)) s (set (set (set (set (set s 1 f) 4 code) 5 cell) 6 0) 7 0)
+  stored-command c {code} {cell} h isCode isCell =
+      changed long
+      (stores.set-command s long f code cell _ (h .0) ∙ simp (isCode, isCell))
+      (λ t.
+      tidy-set (fits-free 7 refl)
+      (tidy-set (fits-overlay (omega arith)) (tidy-set (fits-free 5 refl) (tidy-set (fits-free 4 refl) (tidy-flags (h .1) t)))))
+
+-- ---- the lock code
+module _ {s : List ℕ} (long : length s ≡ stateLength) where
+  -- one more byte: what comes after it is 0 as before
+  pub stored-appended : {v : ℕ} → at s 10 < 16 → Changed (appended v) s (set (set s (12 + at s 10) v) 10 (at s 10 + 1))
+  stored-appended {v} room =
+      changed long (stores.set-appended s long v room)
+      (λ t.
+      let n = at s 10 in
+      let later : (j : ℕ) → (12 + n ≡ j → ⊥) → (10 ≡ j → ⊥) → at (set (set s (12 + n) v) 10 (n + 1)) j ≡ at s j =
+      λ j a b. getD-set-other (set s (12 + n) v) 10 j (n + 1) 0 (λ e. b (sym e)) ∙ getD-set-other s (12 + n) j v 0 (λ e. a (sym e)) in
+      let size : at (set (set s (12 + n) v) 10 (n + 1)) 10 ≡ n + 1 = getD-set-same (set s (12 + n) v) 10 (n + 1) 0 (simp length-set (omega arith)) in
+      record {
+        long = simp length-set long;
+        flags = rw (later 1 (λ e. omega arith) (λ e. omega arith)) (t .flags);
+        latches = rw (later 3 (λ e. omega arith) (λ e. omega arith)) (t .latches);
+        overlay = rw (later 6 (λ e. omega arith) (λ e. omega arith)) (t .overlay);
+        size = rw size (omega arith);
+        rest = λ k low high. later (12 + k) (λ e. omega (arith, size, low)) (λ e. omega arith) ∙ t .rest k (omega (arith, size, low)) high;
+      })
+
+-- dropped: its sixteen bytes are 0
+module _ (s : List ℕ) where
+  length-cleared : (n : ℕ) → length (cleared n s) ≡ length s
+  length-cleared zero = refl
+  length-cleared (suc n) = length-set (cleared n s) (12 + n) 0 ∙ length-cleared n
+
+  cleared-other : (n j : ℕ) → ((k : ℕ) → k < n → j ≡ 12 + k → ⊥) → at (cleared n s) j ≡ at s j
+  cleared-other zero j apart = refl
+  cleared-other (suc n) j apart =
+      getD-set-other (cleared n s) (12 + n) j 0 0 (apart n (omega arith)) ∙ cleared-other n j (λ k h. apart k (omega arith))
+
+  cleared-zero : (n k : ℕ) → 12 + n ≤ length s → k < n → at (cleared n s) (12 + k) ≡ 0
+  cleared-zero zero k room h = absurd (not-suc-le-zero h)
+  cleared-zero (suc n) k room h =
+      split (eqb k n)
+      (λ e.
+      ap (λ (j : ℕ). at (set (cleared n s) (12 + n) 0) (12 + j)) (eqb-true k n e)
+      ∙ getD-set-same (cleared n s) (12 + n) 0 0 (omega (arith, length-cleared n)))
+      (λ e.
+      getD-set-other (cleared n s) (12 + n) (12 + k) 0 0 (λ same. eqb-false k n e (omega arith))
+      ∙ cleared-zero n k (omega arith) (omega (arith, eqb-false k n e)))
+
+  pub stored-dropped : length s ≡ stateLength → Changed dropped s (set (cleared 16 s) 10 0)
+  stored-dropped long =
+      changed long (set-dropped s long)
+      (λ t.
+      let long′ : length (cleared 16 s) ≡ stateLength = length-cleared 16 ∙ long in
+      let later : (j : ℕ) → j < 10 → at (set (cleared 16 s) 10 0) j ≡ at s j =
+      λ j h. getD-set-other (cleared 16 s) 10 j 0 0 (λ e. omega arith) ∙ cleared-other 16 j (λ k low e. omega arith) in
+      record {
+        long = length-set (cleared 16 s) 10 0 ∙ long′;
+        flags = rw (later 1 (omega arith)) (t .flags);
+        latches = rw (later 3 (omega arith)) (t .latches);
+        overlay = rw (later 6 (omega arith)) (t .overlay);
+        size = rw (getD-set-same (cleared 16 s) 10 0 0 (omega (arith, long′))) (omega arith);
+        rest = λ k low high.
+            getD-set-other (cleared 16 s) 10 (12 + k) 0 0 (λ e. omega arith) ∙ cleared-zero 16 k (omega arith) high;
+      })

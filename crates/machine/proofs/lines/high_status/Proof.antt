@@ -1,0 +1,59 @@
+-- `machine::lines::high_status` meets its contract. The overlay's test picks the case of the definition.
+-- Assumes nothing.
+use borrow.Author.Needs.{needs}
+use native.Mathlib.Omega.{arith}
+use borrow.Author.Tests.{eq-eqb, ne-eqb}
+use Rattle.machine.specs.Lines.{highNibble}
+use Rattle.machine.proofs.Laws.Lines.{highNibble-lines}
+use Rattle.machine.proofs.lines.high_status.Statement.{statement}
+use Rattle.machine.proofs.lines.high_status.Tie as tie
+
+element-copy-out-if1 : tie.Need-element-copy-out-if1
+element-copy-out-if1 c = search needs
+
+element-copy-out-result : tie.Need-element-copy-out-result
+element-copy-out-result c = search needs
+
+mul-result : tie.Need-mul-result
+mul-result c = search needs
+
+element-copy-out-upper : tie.Need-element-copy-out-upper
+element-copy-out-upper c = search needs
+
+output-full-requires : tie.Need-output-full-requires
+output-full-requires c κs = search needs
+
+from-mouse-requires : tie.Need-from-mouse-requires
+from-mouse-requires c κs = search needs
+
+element-copy-out-upper-2 : tie.Need-element-copy-out-upper-2
+element-copy-out-upper-2 c = search needs
+
+element-copy-out-upper-3 : tie.Need-element-copy-out-upper-3
+element-copy-out-upper-3 c = search needs
+
+upper-requires : tie.Need-upper-requires
+upper-requires c κs = search needs
+
+returns : tie.Need-returns
+unfolding highNibble
+returns c = (simp (eq-eqb _ _ (c .before .if1 .taken)), omega arith)
+
+returns-2 : tie.Need-returns-2
+returns-2 c = (search (highNibble-lines, ne-eqb), c .upper .ensures .1)
+
+pub high-status-spec : {M : Type 1} → statement M
+high-status-spec =
+    tie.close
+    (tie.spec
+    element-copy-out-if1
+    element-copy-out-result
+    mul-result
+    element-copy-out-upper
+    output-full-requires
+    from-mouse-requires
+    element-copy-out-upper-2
+    element-copy-out-upper-3
+    upper-requires
+    returns
+    returns-2)

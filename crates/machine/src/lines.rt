@@ -1,0 +1,181 @@
+// What the state shows: the mode byte's bits, status, the output port, and a byte put for the host.
+use crate::flags::with_output;
+use crate::state::FLAGS;
+use crate::state::LATCHES;
+use crate::state::MODE;
+use crate::state::NIBBLE;
+use crate::state::OUTPUT;
+use crate::state::OVERLAY;
+use crate::state::PINS;
+use crate::state::RAM;
+use crate::state::SENT_TO;
+use crate::state::State;
+use crate::state::sized;
+use crate::weights::nibble;
+use crate::weights::upper;
+use crate::weights::weight;
+ghost use mathlib.Core.Path.{_≡_};
+ghost use mathlib.Core.Bool.{false};
+ghost use Prim.Native.Nat.{_*_, _≤_};
+ghost use Rattle.machine.specs.State.{lift};
+ghost use Rattle.machine.specs.Lines as lines;
+ghost use Rattle.machine.specs.View.{public};
+ghost use Rattle.machine.specs.Changed.{KeptChange};
+
+// A cell of the RAM, 0 past its end.
+pub fn cell(s: &State, k: u8) -> u8
+    ensures { λ r. ⌜ r ≡ lines.cellOf (public (now (s .entry))) k ⌝ }
+{
+    sized(*s);
+    if k < 32 {
+        let at = RAM + (k as usize);
+        s[at]
+    } else {
+        0
+    }
+}
+
+// The mode byte: cell 0 of the RAM.
+pub fn mode(s: &State) -> u8
+    ensures { λ r. ⌜ r ≡ lines.mode (public (now (s .entry))) ⌝ }
+{
+    s[MODE]
+}
+
+pub fn keyboard_off(s: &State) -> bool
+    ensures { λ r. ⌜ r ≡ lines.keyboardOff (public (now (s .entry))) ⌝ }
+{
+    s[MODE] / 16 % 2 == 1
+}
+
+pub fn mouse_off(s: &State) -> bool
+    ensures { λ r. ⌜ r ≡ lines.mouseOff (public (now (s .entry))) ⌝ }
+{
+    s[MODE] / 32 % 2 == 1
+}
+
+pub fn translates(s: &State) -> bool
+    ensures { λ r. ⌜ r ≡ lines.translates (public (now (s .entry))) ⌝ }
+{
+    s[MODE] / 64 % 2 == 1
+}
+
+// Output buffer full.
+pub fn output_full(s: &State) -> bool
+    ensures { λ r. ⌜ r ≡ public (now (s .entry)) .output .full ⌝ }
+{
+    s[FLAGS] / 1 % 2 == 1
+}
+
+fn from_mouse(s: &State) -> bool
+    ensures { λ r. ⌜ r ≡ public (now (s .entry)) .output .mouse ⌝ }
+{
+    s[FLAGS] / 2 % 2 == 1
+}
+
+pub fn locked(s: &State) -> bool
+    ensures { λ r. ⌜ r ≡ public (now (s .entry)) .locked ⌝ }
+{
+    s[FLAGS] / 64 % 2 == 1
+}
+
+// Input buffer full: a byte is being sent.
+pub fn input_full(s: &State) -> bool
+    ensures { λ r. ⌜ r ≡ lines.inputFull (public (now (s .entry))) ⌝ }
+{
+    s[SENT_TO] != 0
+}
+
+// The key switch is turned and the mode byte does not override it.
+pub fn inhibited(s: &State) -> bool
+    ensures { λ r. ⌜ r ≡ lines.inhibited (public (now (s .entry))) ⌝ }
+{
+    (s[PINS] / 128 % 2 != 1) & (s[MODE] / 8 % 2 != 1)
+}
+
+// Bits 4-7 of the status.
+fn high_status(s: &State) -> u8
+    ensures { λ r. ⌜ (r ≡ 16 * lines.highNibble (public (now (s .entry)))) × (r ≤ 240) ⌝ }
+{
+    if s[OVERLAY] == 1 {
+        16 * (s[NIBBLE] % 16)
+    } else {
+        upper(
+            s[PINS] / 128 % 2 == 1,
+            output_full(s) & from_mouse(s),
+            s[FLAGS] / 8 % 2 == 1,
+            s[FLAGS] / 16 % 2 == 1,
+        )
+    }
+}
+
+pub fn status(s: &State) -> u8
+    ensures { λ r. ⌜ r ≡ lines.status (public (now (s .entry))) ⌝ }
+{
+    nibble(
+        output_full(s),
+        input_full(s),
+        s[MODE] / 4 % 2 == 1,
+        s[FLAGS] / 4 % 2 == 1,
+    )
+        + high_status(s)
+}
+
+// KIRQ or MIRQ: a full buffer, while the interrupt of the device that its byte came from is enabled.
+fn requests(s: &State) -> u8
+    ensures { λ r. ⌜ (let p = public (now (s .entry)) in (r ≡ 16 * lines.nibble (lines.keyboardRequest p) (lines.mouseRequest p) false false) × (r ≤ 32)) ⌝ }
+{
+    if output_full(s) {
+        if from_mouse(s) {
+            weight(32, s[MODE] / 2 % 2 == 1)
+        } else {
+            weight(16, s[MODE] / 1 % 2 == 1)
+        }
+    } else {
+        0
+    }
+}
+
+// The output port P2.
+pub fn output_port(s: &State) -> u8
+    ensures { λ r. ⌜ r ≡ lines.outputPort (public (now (s .entry))) ⌝ }
+{
+    nibble(
+        s[LATCHES] / 1 % 2 == 1,
+        s[LATCHES] / 2 % 2 == 1,
+        false,
+        mouse_off(s),
+    )
+        + requests(s)
+        + weight(64, keyboard_off(s))
+}
+
+// A byte for the host to read, from the keyboard or the controller itself.
+pub fn put(s: &mut State, byte: u8)
+    ensures { λ _. ⌜ KeptChange (lift (lines.put byte)) (now (s .entry)) (now (s .exit)) ⌝ }
+{
+    sized(*s);
+    let flags = s[FLAGS];
+    s[FLAGS] = with_output(flags, true, false);
+    s[OUTPUT] = byte;
+}
+
+// A byte for the host to read, from the mouse.
+pub fn put_mouse(s: &mut State, byte: u8)
+    ensures { λ _. ⌜ KeptChange (lift (lines.putMouse byte)) (now (s .entry)) (now (s .exit)) ⌝ }
+{
+    sized(*s);
+    let flags = s[FLAGS];
+    s[FLAGS] = with_output(flags, true, true);
+    s[OUTPUT] = byte;
+}
+
+// A cell of the RAM put, unless it is 0.
+pub fn put_cell(s: &mut State, k: u8)
+    ensures { λ _. ⌜ KeptChange (lift (lines.putCell k)) (now (s .entry)) (now (s .exit)) ⌝ }
+{
+    let byte = cell(s, k);
+    if byte != 0 {
+        put(s, byte);
+    }
+}

@@ -1,2 +1,0 @@
--- Laws of what the calls on images promise.
-pub mod Resumed

@@ -1,0 +1,27 @@
+-- `panel::wire::calugnid_translate` meets its contract. The two numbers are those of the translation that `translate` answers.
+-- Assumes nothing.
+use mathlib.Core.Path.{ap}
+use Rattle.panel.specs.Numbers.{translationNumber}
+use borrow.Author.Needs.{needs}
+use Rattle.panel.proofs.wire.calugnid_translate.Statement.{statement}
+use Rattle.panel.proofs.wire.calugnid_translate.Tie as tie
+
+translate-requires : tie.Need-translate-requires
+translate-requires c κs = search needs
+
+yielded-requires : tie.Need-yielded-requires
+yielded-requires c κs = search needs
+
+flag-requires : tie.Need-flag-requires
+flag-requires c κs = search needs
+
+add-result : tie.Need-add-result
+add-result c = search needs
+
+returns : tie.Need-returns
+returns c =
+    simp (c .flag .ensures .0, c .before .yielded .ensures .0) (ap translationNumber (c .before .before .translate .ensures))
+
+pub calugnid-translate-spec : {M : Type 1} → statement M
+calugnid-translate-spec =
+    tie.close (tie.spec translate-requires yielded-requires flag-requires add-result returns)

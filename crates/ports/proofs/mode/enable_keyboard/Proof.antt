@@ -1,0 +1,25 @@
+-- `ports::mode::enable_keyboard` meets its contract. The mode byte that is stored is the rule's, of the one that was read.
+-- Assumes nothing.
+use borrow.Author.Needs.{needs}
+use Rattle.machine.proofs.Laws.Changed.{by-rule}
+use Rattle.ports.proofs.mode.enable_keyboard.Statement.{statement}
+use Rattle.ports.proofs.mode.enable_keyboard.Tie as tie
+
+mode-requires : tie.Need-mode-requires
+mode-requires c κs = search needs
+
+mul-set-mode : tie.Need-mul-set-mode
+mul-set-mode c = search needs
+
+sub-set-mode : tie.Need-sub-set-mode
+sub-set-mode c = search needs
+
+set-mode-requires : tie.Need-set-mode-requires
+set-mode-requires c κs = search needs
+
+returns : tie.Need-returns
+returns c = by-rule (c .set-mode .ensures) (cc)
+
+pub enable-keyboard-spec : {M : Type 1} → statement M
+enable-keyboard-spec =
+    tie.close (tie.spec mode-requires mul-set-mode sub-set-mode set-mode-requires returns)
