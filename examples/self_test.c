@@ -4,33 +4,37 @@
 
 #include "calugnid.h"
 
-static void print_answers(const uint8_t *answers, size_t events)
+static void print_answer(const uint8_t *answer)
 {
-    for (size_t i = 0; i < events; i++) {
-        const uint8_t *a = answers + CALUGNID_ANSWER_BYTES * i;
-        printf("refusal %d, read %02X%s, status %02X, P2 %02X\n", a[0], a[1],
-               a[2] ? " (old)" : "", a[3], a[4]);
-    }
+    printf("refusal %d, read %02X%s, status %02X, P2 %02X\n",
+           answer[CALUGNID_AT_REFUSAL], answer[CALUGNID_AT_READ],
+           answer[CALUGNID_AT_OLD] ? " (old)" : "",
+           answer[CALUGNID_AT_STATUS], answer[CALUGNID_AT_P2]);
 }
 
 int main(void)
 {
-    /* write 64h AAh, read 64h, read 60h */
-    static const uint8_t self_test[] = {3, 0xAA, 0, 2, 0, 0, 0, 0, 0};
-    static const uint8_t read_again[] = {0, 0, 0};
+    static const uint8_t self_test[] = {
+        CALUGNID_WRITE_COMMAND, 0xAA, 0,
+        CALUGNID_READ_STATUS, 0, 0,
+        CALUGNID_READ_DATA, 0, 0,
+    };
+    uint8_t state[CALUGNID_STATE_BYTES], restored[CALUGNID_STATE_BYTES];
     uint8_t answers[3 * CALUGNID_ANSWER_BYTES];
-    uint8_t fresh[CALUGNID_IMAGE_BYTES], saved[CALUGNID_IMAGE_BYTES];
+    uint8_t image[CALUGNID_IMAGE_BYTES];
 
-    if (calugnid_fresh_image(fresh, sizeof fresh) != CALUGNID_ACCEPTED)
+    calugnid_start(state);
+    if (calugnid_run_state(state, self_test, sizeof self_test,
+                           answers, sizeof answers) != CALUGNID_ACCEPTED)
         return 1;
-    if (calugnid_run_image(fresh, sizeof fresh, self_test, sizeof self_test,
-                           answers, sizeof answers, saved, sizeof saved) != CALUGNID_ACCEPTED)
+    for (size_t i = 0; i < 3; i++)
+        print_answer(answers + CALUGNID_ANSWER_BYTES * i);
+    if (calugnid_save(state, image, sizeof image) != CALUGNID_ACCEPTED)
         return 1;
-    print_answers(answers, 3);
-    if (calugnid_run_image(saved, sizeof saved, read_again, sizeof read_again,
-                           answers, sizeof answers, saved, sizeof saved) != CALUGNID_ACCEPTED)
+    if (calugnid_load(restored, image, sizeof image) != CALUGNID_ACCEPTED)
         return 1;
-    print_answers(answers, 1);
+    calugnid_event(restored, CALUGNID_READ_DATA, 0, answers);
+    print_answer(answers);
     printf("frame of 14h: %03X, judged %02X\n", calugnid_frame(0x14),
            calugnid_judge(calugnid_frame(0x14)));
     return 0;

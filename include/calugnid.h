@@ -1,12 +1,26 @@
-/* The 8042 keyboard controller model of the frost panel, for C.
+/* The 8042 keyboard controller model of the frost panel, for C and C++.
  * Link target/staticlib/libpanel.a, which `rt staticlib panel` builds.
  *
- * An event is three bytes: kind, value low, value high. An answer is nine:
- * refusal, byte read, old mark, status, output port P2, pulse mask,
- * destination, frame low, frame high. Every function takes any input; a call
- * that is refused hands back a number other than 0 and writes nothing. Bytes
- * past what a call writes stay as they were. No function keeps anything
- * between calls.
+ * A controller is a state of CALUGNID_STATE_BYTES bytes that the caller keeps
+ * and lends to each call. The library has no memory of its own, allocates
+ * nothing and prints nothing. Make a state by calugnid_start or calugnid_load
+ * and change it by calls only. On any other sixty bytes a call still ends and
+ * stays inside what it is lent, but its answers promise nothing.
+ *
+ * What a caller owes:
+ * - Pointers to valid memory of the size named, not null even where a length
+ *   is 0. No alignment is needed.
+ * - No two arguments of a call overlap where one of them is written.
+ * - One thread at a time for each state.
+ * Everything else may be anything: a call that cannot do its work hands back
+ * the number of the check that refuses it, and changes nothing.
+ *
+ * Advice for a board:
+ * - P2 gives levels. After each event compare its bits with those of the
+ *   answer before, and drive an interrupt line only when its bit changed.
+ * - The byte read stands in the answer to the read. Take it before the next
+ *   frame is fed: each event writes all nine bytes.
+ * - A device keeps its frame until calugnid_refusal says 0 for it.
  */
 #ifndef CALUGNID_H
 #define CALUGNID_H
@@ -15,9 +29,41 @@
 #include <stddef.h>
 #include <stdint.h>
 
-/* Refusal numbers of whole calls. */
+#ifdef __cplusplus
+extern "C" {
+#endif
+
+/* Sizes in bytes. */
+enum {
+    CALUGNID_STATE_BYTES = 60,
+    CALUGNID_IMAGE_BYTES = 68,
+    CALUGNID_EVENT_BYTES = 3,   /* in a list: kind, value low, value high */
+    CALUGNID_ANSWER_BYTES = 9,
+    CALUGNID_LIST_MOST = 21000  /* the longest list */
+};
+
+/* Kinds of events, and the largest value that each takes. */
+enum {
+    CALUGNID_READ_DATA = 0,      /* the host reads port 60h; 0 */
+    CALUGNID_WRITE_DATA = 1,     /* the host writes port 60h; FFh */
+    CALUGNID_READ_STATUS = 2,    /* the host reads port 64h; 0 */
+    CALUGNID_WRITE_COMMAND = 3,  /* the host writes port 64h; FFh */
+    CALUGNID_KEYBOARD_FRAME = 4, /* a frame from the keyboard; 7FFh */
+    CALUGNID_MOUSE_FRAME = 5,    /* a frame from the mouse; 7FFh */
+    CALUGNID_BYTE_TAKEN = 6,     /* the device took the byte sent to it; 0 */
+    CALUGNID_BYTE_TIMED_OUT = 7, /* the device did not; 0 */
+    CALUGNID_PINS = 8            /* the input port P1; FFh */
+};
+
+/* Refusals: 1-6 of an event, 7-11 of a whole call. */
 enum {
     CALUGNID_ACCEPTED = 0,
+    CALUGNID_BAD_KIND = 1,
+    CALUGNID_BAD_VALUE = 2,     /* above the largest for its kind */
+    CALUGNID_SENDING = 3,       /* a write while a byte is being sent (IBF) */
+    CALUGNID_LOCKED = 4,        /* a write while locked */
+    CALUGNID_NOT_READY = 5,     /* a frame while its device is off, OBF or IBF is 1 */
+    CALUGNID_NOT_SENDING = 6,   /* taken or timed out with nothing being sent */
     CALUGNID_BAD_LIST = 7,      /* length no multiple of 3, or above 21,000 */
     CALUGNID_NO_ROOM = 8,       /* under 9 answer bytes an event */
     CALUGNID_NO_SAVE_ROOM = 9,  /* under 68 bytes to save to */
@@ -25,12 +71,96 @@ enum {
     CALUGNID_BAD_BODY = 11      /* a body rule broken */
 };
 
+/* Where each of the nine answer bytes stands. Those from the status on, the
+ * pulse apart, are the lines as they are after the event. */
 enum {
-    CALUGNID_EVENT_BYTES = 3,
-    CALUGNID_ANSWER_BYTES = 9,
-    CALUGNID_LIST_MOST = 21000, /* bytes of the longest list */
-    CALUGNID_IMAGE_BYTES = 68
+    CALUGNID_AT_REFUSAL = 0,
+    CALUGNID_AT_READ = 1,        /* the byte that the host reads, else 0 */
+    CALUGNID_AT_OLD = 2,         /* 1 where the buffer read was empty */
+    CALUGNID_AT_STATUS = 3,
+    CALUGNID_AT_P2 = 4,
+    CALUGNID_AT_PULSE = 5,       /* the bits of P2 that are pulsed */
+    CALUGNID_AT_DESTINATION = 6,
+    CALUGNID_AT_FRAME_LOW = 7,   /* the frame being sent, 0 with nobody */
+    CALUGNID_AT_FRAME_HIGH = 8
 };
+
+/* Status bits. Commands C1h and C2h show pins in place of the upper four
+ * until the next command. */
+enum {
+    CALUGNID_STATUS_OBF = 0x01,    /* output buffer full */
+    CALUGNID_STATUS_IBF = 0x02,    /* input buffer full: a byte is being sent */
+    CALUGNID_STATUS_SYS = 0x04,    /* system flag, of the command byte */
+    CALUGNID_STATUS_C = 0x08,      /* the last write was to port 64h */
+    CALUGNID_STATUS_SWITCH = 0x10, /* pin 7 of P1; 0 inhibits the keyboard */
+    CALUGNID_STATUS_MOUSE = 0x20,  /* the unread byte is the mouse's */
+    CALUGNID_STATUS_TERR = 0x40,   /* framing error, or a byte timed out */
+    CALUGNID_STATUS_PERR = 0x80    /* parity error */
+};
+
+/* Bits of the output port P2. */
+enum {
+    CALUGNID_P2_P20 = 0x01,         /* the processor's reset on a PC, low when active */
+    CALUGNID_P2_P21 = 0x02,         /* the A20 gate on a PC */
+    CALUGNID_P2_MOUSE_OFF = 0x08,
+    CALUGNID_P2_KIRQ = 0x10,        /* keyboard interrupt, IRQ 1 */
+    CALUGNID_P2_MIRQ = 0x20,        /* mouse interrupt, IRQ 12 */
+    CALUGNID_P2_KEYBOARD_OFF = 0x40
+};
+
+/* Destinations of the byte being sent. */
+enum {
+    CALUGNID_TO_NOBODY = 0,
+    CALUGNID_TO_KEYBOARD = 1,
+    CALUGNID_TO_MOUSE = 2
+};
+
+/* Results of calugnid_judge past the bytes, and bits of calugnid_translate. */
+enum {
+    CALUGNID_PARITY_ERROR = 0x100,
+    CALUGNID_FRAMING_ERROR = 0x101,
+    CALUGNID_YIELDS = 0x100,
+    CALUGNID_BREAK_FLAG = 0x200
+};
+
+/* ---- A controller that a board keeps: `state` is 60 bytes, `answer` is 9. */
+
+/* Makes a fresh controller. */
+void calugnid_start(uint8_t *state);
+
+/* One event. A refused event leaves the state as it was, and its answer holds
+ * the refusal and the unchanged lines. */
+void calugnid_event(uint8_t *state, uint8_t kind, uint16_t value, uint8_t *answer);
+
+/* A list of events, three bytes each; nine bytes written for each. Bytes past
+ * the last answer stay. 0, 7 or 8; refused, nothing changes. */
+uint8_t calugnid_run_state(uint8_t *state, const uint8_t *list, size_t list_length,
+                           uint8_t *answers, size_t answers_length);
+
+/* Runs a list of any length, as far as the answers have room: a third of
+ * `list_length` or a ninth of `answers_length` events, whichever is fewer. One
+ * or two bytes at the list's end are no event. */
+void calugnid_run_fitting(uint8_t *state, const uint8_t *list, size_t list_length,
+                          uint8_t *answers, size_t answers_length);
+
+/* Saves to the first 68 bytes, of which 60 are the state's. 0 or 9. */
+uint8_t calugnid_save(const uint8_t *state, uint8_t *saved, size_t saved_length);
+
+/* Makes the controller of the image that stands at the end of `image`. 0, 10
+ * or 11; refused, the state is as it was. */
+uint8_t calugnid_load(uint8_t *state, const uint8_t *image, size_t image_length);
+
+/* The lines with no event, as after a start or a load: an answer that holds 0
+ * for refusal, byte read, old mark and pulse. */
+void calugnid_lines(const uint8_t *state, uint8_t *answer);
+
+/* The check, 1-6, that would refuse this event now, or 0. Nothing changes. */
+uint8_t calugnid_refusal(const uint8_t *state, uint8_t kind, uint16_t value);
+
+/* The byte being sent, 0 with nobody. */
+uint8_t calugnid_sent_byte(const uint8_t *state);
+
+/* ---- Without a state. */
 
 /* Runs a list of events on a fresh controller. 0, 7 or 8. */
 uint8_t calugnid_run(const uint8_t *list, size_t list_length,
@@ -44,22 +174,23 @@ uint8_t calugnid_run_image(const uint8_t *image, size_t image_length,
                            uint8_t *answers, size_t answers_length,
                            uint8_t *saved, size_t saved_length);
 
-/* Saves a fresh controller to the first 68 bytes. 0 or 9. */
-uint8_t calugnid_fresh_image(uint8_t *saved, size_t saved_length);
-
 /* Where the body of the image at the end of `image` starts, or image_length
  * where there is no image (refusal 10). */
 size_t calugnid_find(const uint8_t *image, size_t image_length);
 
-/* The frame check: 0-255 the byte of a sound frame, 256 a parity error, 257 a
- * framing error or a number of more than eleven bits. */
+/* The frame check: 0-FFh the byte of a sound frame, else a parity error, or a
+ * framing error, which is also a number of more than eleven bits. */
 uint16_t calugnid_judge(uint16_t frame);
 
 /* The eleven-bit frame of a byte. */
 uint16_t calugnid_frame(uint8_t byte);
 
-/* Scan code set 2 to set 1: bits 0-7 the byte, bit 8 set where there is one,
- * bit 9 the break flag afterwards. */
+/* Scan code set 2 to set 1: bits 0-7 the byte, CALUGNID_YIELDS where there is
+ * one, CALUGNID_BREAK_FLAG where the break flag is set afterwards. */
 uint16_t calugnid_translate(uint8_t byte, bool break_flag);
+
+#ifdef __cplusplus
+}
+#endif
 
 #endif

@@ -1,6 +1,7 @@
 #!/bin/sh
 # Counts the instructions that one event costs, in the library and in the
-# model, with both in the same process. Needs valgrind.
+# model, with both in the same process. The row `events` has one call an event,
+# the others one call a list. Needs valgrind.
 set -eu
 cd "$(dirname "$0")"
 cargo build --quiet --release --package bench
@@ -17,11 +18,16 @@ inclusive() {
 }
 
 printf '%-10s %8s %18s %16s %7s\n' case events 'library per event' 'model per event' ratio
-for name in mix-1 mix-70 mix-700 mix-7000 tries refused; do
+for name in mix-1 mix-70 mix-700 mix-7000 tries refused events; do
+    case $name in
+    events) suffix=_event ;;
+    *) suffix= ;;
+    esac
     events=$(valgrind --quiet --tool=callgrind --compress-strings=no --compress-pos=no \
         --callgrind-out-file="$work/profile" "$program" "$name")
     awk -v name="$name" -v events="$events" \
-        -v library="$(inclusive measured_library)" -v model="$(inclusive measured_model)" '
+        -v library="$(inclusive "measured_library$suffix")" \
+        -v model="$(inclusive "measured_model$suffix")" '
         BEGIN {
             if (library == 0 || model == 0) { print name ": no calls seen"; exit 1 }
             printf "%-10s %8d %18.1f %16.1f %7.2f\n",

@@ -1,14 +1,56 @@
 #!/usr/bin/env bash
-# The tests from outside: the library linked into Rust and compared with an independent model, the stored outputs compared with that
-# model's, and the C example. Arguments go to `cargo test`.
+# The tests from outside: the library linked into Rust and compared with an independent model, the C programs built as C and as C++,
+# the program `panelrun` on lists, and the stored outputs compared with those of the model. Arguments go to `cargo test`.
 set -euo pipefail
 cd "$(dirname "$0")/.."
+library=target/staticlib/libpanel.a
+programs=target/programs
+
+# by_model NAME: what a program of tests/generate prints from the model
+by_model() {
+    (cd tests && cargo run --quiet --release --package generate --bin "$1")
+}
+
+# build SOURCE: the programs NAME_c and NAME_cxx
+build() {
+    local name flags=(-Wall -Wextra -Werror -Iinclude)
+    name=$(basename "$1" .c)
+    cc -std=c11 "${flags[@]}" "$1" "$library" -o "$programs/${name}_c"
+    c++ -std=c++11 "${flags[@]}" -x c++ "$1" -x none "$library" -o "$programs/${name}_cxx"
+}
+
+# prints EXPECTED COMMAND...: the command succeeds and prints what is stored
+prints() {
+    "${@:2}" > "$programs/printed"
+    cmp "$programs/printed" "$1"
+}
 
 rt staticlib panel
+rt check panelrun
 (cd tests && cargo test --quiet --release "$@")
-(cd tests && cargo run --quiet --release --package generate --bin frames_table) | cmp - crates/translation_tests/stdout
-(cd tests && cargo run --quiet --release --package generate --bin controller_cases) | cmp - crates/controller_tests/stdout
-(cd tests && cargo run --quiet --release --package generate --bin image_cases) | cmp - crates/image_tests/stdout
-cc -std=c11 -Wall -Wextra -Werror -Iinclude examples/self_test.c target/staticlib/libpanel.a -o target/self_test
-target/self_test | cmp - examples/self_test.expected
+
+by_model frames_table | cmp - crates/translation_tests/stdout
+by_model controller_cases | cmp - crates/controller_tests/stdout
+by_model image_cases | cmp - crates/image_tests/stdout
+
+mkdir -p "$programs"
+for source in tests/c/calls.c examples/self_test.c examples/board.c; do
+    build "$source"
+done
+for language in c cxx; do
+    "$programs/calls_$language"
+    prints examples/self_test.expected "$programs/self_test_$language"
+    prints examples/board.expected "$programs/board_$language"
+done
+
+for events in examples/*.events; do
+    prints "${events%.events}.expected" by_model printed_list < "$events"
+    prints "${events%.events}.expected" bin/panelrun < "$events"
+done
+# Zeros, which read port 60h: no event, the most events, and lengths that are refused by 7.
+for length in 0 1 4 20999 21000 21001 21003 40000; do
+    head -c "$length" /dev/zero > "$programs/zeros"
+    by_model printed_list < "$programs/zeros" > "$programs/page"
+    prints "$programs/page" bin/panelrun < "$programs/zeros"
+done
 echo "the tests from outside pass"

@@ -1,12 +1,15 @@
 //! Runs one case of the benchmark in the library and in the model.
 //!
 //! `bench CASE` prints the number of events run by each of the two, for a
-//! profiler around it to divide by. `bench stack WHO` makes a single run.
+//! profiler around it to divide by. `bench events` does so with one call an
+//! event. `bench stack WHO` makes a single run.
 
 mod cases;
 mod measured;
 
 use cases::Case;
+use model::Controller;
+use panel::State;
 use std::process::ExitCode;
 
 /// Events run in all, so that a list of one is repeated the most.
@@ -26,6 +29,20 @@ fn profile(case: &Case) {
     println!("{}", repeats * events);
 }
 
+/// The events of a case one by one, each on the state that the last one left.
+fn profile_events(case: &Case) {
+    case.check();
+    let (mut by_library, mut by_model) = ([0; 9], [0; 9]);
+    let (mut state, mut model) = (State::fresh(), Controller::fresh());
+    for event in case.list.chunks_exact(3) {
+        let (kind, value) = (event[0], u16::from_le_bytes([event[1], event[2]]));
+        measured::measured_library_event(&mut state, kind, value, &mut by_library);
+        measured::measured_model_event(&mut model, kind, value, &mut by_model);
+        assert_eq!(by_library, by_model, "answers differ");
+    }
+    println!("{}", case.list.len() / 3);
+}
+
 /// One full list on the main thread, whose stack the caller has limited.
 fn use_stack(who: &str) {
     let list = cases::mix(7_000).list;
@@ -43,6 +60,7 @@ fn main() -> ExitCode {
     let words: Vec<&str> = arguments.iter().map(String::as_str).collect();
     match words[..] {
         ["stack", who] => use_stack(who),
+        ["events"] => profile_events(&cases::mix(7_000)),
         [name] => match cases::by_name(name) {
             Some(case) => profile(&case),
             None => return ExitCode::FAILURE,

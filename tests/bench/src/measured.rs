@@ -1,8 +1,10 @@
-//! The two calls that the profiler looks for by name.
+//! The calls that the profiler looks for by name.
 //!
-//! Each does something after its inner call, so that neither becomes a jump
-//! and the cost of the callee stays inside.
+//! Each does something after its inner call, so that none becomes a jump and
+//! the cost of the callee stays inside.
 
+use model::Controller;
+use panel::{Answer, State};
 use std::hint::black_box;
 
 #[inline(never)]
@@ -15,4 +17,18 @@ pub fn measured_library(list: &[u8], answers: &mut [u8]) -> u8 {
 #[unsafe(no_mangle)]
 pub fn measured_model(list: &[u8], answers: &mut [u8]) -> u8 {
     black_box(model::run(list, answers))
+}
+
+#[inline(never)]
+#[unsafe(no_mangle)]
+pub fn measured_library_event(state: &mut State, kind: u8, value: u16, answer: &mut Answer) {
+    state.event(kind, value, answer);
+    black_box(());
+}
+
+#[inline(never)]
+#[unsafe(no_mangle)]
+pub fn measured_model_event(state: &mut Controller, kind: u8, value: u16, answer: &mut Answer) {
+    *answer = state.event(kind, value);
+    black_box(());
 }

@@ -79,19 +79,3 @@ pub fn find(bytes: &[u8]) {
     let offset = body.as_ptr() as usize - bytes.as_ptr() as usize;
     assert_eq!(panel::find(bytes), offset, "body in {bytes:02X?}");
 }
-
-/// Saves a fresh controller in both.
-pub fn fresh_image(random: &mut Random, room: usize) -> u8 {
-    let mut saved = vec![0; room];
-    let refusal = model::fresh_image(&mut saved);
-    saved.truncate(if refusal == 0 { IMAGE_SIZE } else { 0 });
-
-    let mut buffer = Guarded::new(random, room);
-    assert_eq!(
-        panel::fresh_image(buffer.inside()),
-        refusal,
-        "refusal of a save"
-    );
-    buffer.assert_begins(&saved, "fresh image");
-    refusal
-}

@@ -62,6 +62,35 @@ impl Coverage {
         }
     }
 
+    /// Fails unless all of it was reached often enough for so many events.
+    pub fn assert_reached(&self) {
+        println!("{self:?}");
+        let often = |count: usize, per_million: usize, what: &str| {
+            let wanted = per_million * self.events / 1_000_000;
+            assert!(count > wanted, "{what}: {count}, above {wanted} wanted");
+        };
+        let least = |counts: &[usize]| counts.iter().copied().min().unwrap_or(0);
+        often(least(&self.refusals), 500, "refusals");
+        often(least(&self.accepted), 500, "kinds");
+        often(least(&self.commands), 17, "commands");
+        often(least(&self.keyboard_bytes), 17, "keyboard bytes");
+        often(least(&self.code_lengths), 17, "code lengths");
+        often(self.overlong_codes, 50, "codes that are too long");
+        often(self.abandoned_loads, 50, "loads ended by a command");
+        often(self.locks, 500, "locks");
+        often(self.opens, 334, "opened locks");
+        often(
+            least(&self.opened_lengths[1..]),
+            17,
+            "opened locks by length",
+        );
+        often(self.wrong_tries, 334, "wrong keys after right ones");
+        often(self.resets_by_damage, 50, "damage after right keys");
+        often(self.swallowed, 50, "keys swallowed while locked");
+        often(self.overridden, 50, "inhibit overridden");
+        often(self.overlays, 500, "overlays");
+    }
+
     fn note_data(&mut self, before: &Controller, event: Event, after: &Controller) {
         if before.pending != Pending::Password || after.pending == Pending::Password {
             return;

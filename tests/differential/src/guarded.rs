@@ -24,6 +24,11 @@ impl Guarded {
         &mut self.bytes[MARGIN..end]
     }
 
+    /// The same where the length is known.
+    pub fn array<const N: usize>(&mut self) -> &mut [u8; N] {
+        self.inside().try_into().expect("a buffer of that length")
+    }
+
     /// Checks that the buffer now begins with `written` and that every other
     /// byte, margins included, is as it was.
     pub fn assert_begins(&self, written: &[u8], what: &str) {

@@ -1,9 +1,11 @@
 //! Generators of events and images, and comparison of the library with the
 //! model.
 
+pub mod both;
 pub mod compare;
 pub mod coverage;
 pub mod event;
+pub mod fenced;
 pub mod guarded;
 pub mod images;
 pub mod keys;
@@ -14,3 +16,4 @@ pub mod random;
 pub mod rounds;
 pub mod unguided;
 pub mod walker;
+pub mod walks;

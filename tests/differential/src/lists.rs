@@ -20,7 +20,7 @@ pub fn choose_length(random: &mut Random) -> usize {
 }
 
 /// A lock that cannot open wastes the rest of a list.
-fn stuck(state: &Controller) -> bool {
+pub fn stuck(state: &Controller) -> bool {
     state.locked && !keys::can_open(state)
 }
 

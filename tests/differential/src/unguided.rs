@@ -40,6 +40,14 @@ pub fn malformed(random: &mut Random) -> Event {
     }
 }
 
+/// An event of either sort.
+pub fn any(random: &mut Random) -> Event {
+    match random.below(3) {
+        0 => malformed(random),
+        _ => well_formed(random),
+    }
+}
+
 /// An 11-bit number that is not a sound frame, more or less.
 pub fn damaged_frame(random: &mut Random) -> u16 {
     let sound = model::frame(random.byte());

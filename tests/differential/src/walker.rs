@@ -33,10 +33,7 @@ impl Walker {
 
     pub fn next(&mut self, state: &Controller) -> Event {
         if self.random.chance(self.noise) {
-            return match self.random.below(3) {
-                0 => unguided::malformed(&mut self.random),
-                _ => unguided::well_formed(&mut self.random),
-            };
+            return unguided::any(&mut self.random);
         }
         if state.locked {
             self.while_locked(state)

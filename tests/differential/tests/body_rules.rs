@@ -1,5 +1,6 @@
 //! Each body rule broken alone.
 
+use differential::both;
 use differential::compare::{self, Room};
 use differential::images;
 use differential::random::Random;
@@ -17,16 +18,13 @@ fn refusal_of(state: &Controller, changes: &[(usize, u8)]) -> u8 {
     images::mend(&mut image);
     let list = [2, 0, 0, 0, 0, 0];
     compare::find(&image);
-    compare::run_image(
-        &mut random,
-        &image,
-        &list,
-        Room {
-            answers: 18,
-            saved: IMAGE_SIZE,
-        },
-    )
-    .refusal
+    let room = Room {
+        answers: 18,
+        saved: IMAGE_SIZE,
+    };
+    let refusal = compare::run_image(&mut random, &image, &list, room).refusal;
+    assert_eq!(both::load(&mut random, &image), refusal);
+    refusal
 }
 
 fn assert_broken(state: &Controller, rules: &[Change]) {

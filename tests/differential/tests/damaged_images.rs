@@ -1,5 +1,6 @@
 //! Images with something wrong in them.
 
+use differential::both;
 use differential::compare::{self, Room};
 use differential::images;
 use differential::random::Random;
@@ -9,11 +10,13 @@ use model::{BODY_SIZE, Controller, IMAGE_SIZE, save};
 /// Reads, a command and a key: enough to show what was loaded.
 const LIST: [u8; 15] = [2, 0, 0, 0, 0, 0, 3, 0x20, 0, 0, 0, 0, 4, 0x38, 0x06];
 
-/// Compares the finder and a run; hands back the refusal number.
+/// Compares the finder, a load and a run; hands back the refusal number.
 fn try_image(random: &mut Random, bytes: &[u8]) -> u8 {
     compare::find(bytes);
     let room = Room::enough(random, &LIST);
-    compare::run_image(random, bytes, &LIST, room).refusal
+    let refusal = compare::run_image(random, bytes, &LIST, room).refusal;
+    assert_eq!(both::load(random, bytes), refusal);
+    refusal
 }
 
 #[test]

@@ -13,30 +13,6 @@ fn room(random: &mut Random, list: &[u8]) -> usize {
     list.len() * 3 + random.pick(&[0, 0, 1, 8, 9, 100])
 }
 
-/// The lists must really reach what they are meant to.
-fn assert_reached(coverage: &Coverage) {
-    let least = |counts: &[usize]| counts.iter().copied().min().unwrap_or(0);
-    println!("{coverage:?}");
-    assert!(least(&coverage.refusals) > 3_000, "refusals");
-    assert!(least(&coverage.accepted) > 3_000, "kinds");
-    assert!(least(&coverage.commands) > 100, "commands");
-    assert!(least(&coverage.keyboard_bytes) > 100, "keyboard bytes");
-    assert!(least(&coverage.code_lengths) > 100, "code lengths");
-    assert!(coverage.overlong_codes > 300, "codes that are too long");
-    assert!(coverage.abandoned_loads > 300, "loads ended by a command");
-    assert!(coverage.locks > 3_000, "locks");
-    assert!(coverage.opens > 2_000, "opened locks");
-    assert!(
-        least(&coverage.opened_lengths[1..]) > 100,
-        "opened locks by length"
-    );
-    assert!(coverage.wrong_tries > 2_000, "wrong keys after right ones");
-    assert!(coverage.resets_by_damage > 300, "damage after right keys");
-    assert!(coverage.swallowed > 300, "keys swallowed while locked");
-    assert!(coverage.overridden > 300, "inhibit overridden");
-    assert!(coverage.overlays > 3_000, "overlays");
-}
-
 #[test]
 fn lists_that_follow_the_machine() {
     let mut coverage = Coverage::new();
@@ -49,7 +25,7 @@ fn lists_that_follow_the_machine() {
         assert_eq!(compare::run(&mut random, &list, room).refusal, 0);
         seed += 1;
     }
-    assert_reached(&coverage);
+    coverage.assert_reached();
 }
 
 #[test]

@@ -76,7 +76,8 @@ fn pending_from(code: u8, number: u8) -> Pending {
     }
 }
 
-pub(crate) fn encode(state: &Controller) -> [u8; BODY_SIZE] {
+/// The body that describes a state.
+pub fn encode(state: &Controller) -> [u8; BODY_SIZE] {
     let mut body = [0; BODY_SIZE];
     body[at::OUTPUT] = state.output;
     body[at::FLAGS] = flags(state);

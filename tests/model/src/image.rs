@@ -39,6 +39,17 @@ pub fn save(state: &Controller) -> [u8; IMAGE_SIZE] {
     image
 }
 
+/// Saves to the front of a buffer; refusal 9 writes nothing.
+pub fn store(state: &Controller, saved: &mut [u8]) -> u8 {
+    match saved.first_chunk_mut() {
+        Some(image) => {
+            *image = save(state);
+            0
+        }
+        None => 9,
+    }
+}
+
 /// The body inside `bytes`, which end in an image; empty when the trailer does
 /// not fit.
 pub fn find(bytes: &[u8]) -> &[u8] {

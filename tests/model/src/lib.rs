@@ -20,12 +20,12 @@ mod refusal;
 mod stored_run;
 mod translation;
 
-pub use body::BODY_SIZE;
+pub use body::{BODY_SIZE, encode};
 pub use body_rules::keeps_body_rules;
 pub use controller::{Controller, Device, Pending, cell, mode};
 pub use frame::{Verdict, frame, judge};
-pub use image::{IMAGE_SIZE, find, load, save, word_sum};
+pub use image::{IMAGE_SIZE, find, load, save, store, word_sum};
 pub use list::{ANSWER_SIZE, EVENT_SIZE, LIST_LIMIT, list_refusal, run};
 pub use password::{PASSWORD_LIMIT, Password};
-pub use stored_run::{fresh_image, run_image};
+pub use stored_run::run_image;
 pub use translation::{entry, translate};

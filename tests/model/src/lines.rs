@@ -49,6 +49,16 @@ impl Controller {
             | bit(self.mode(mode::KEYBOARD_OFF), 6)
     }
 
+    /// The byte on its way to a device, 0 with nobody.
+    pub fn sent_byte(&self) -> u8 {
+        self.sending.map_or(0, |(_, byte)| byte)
+    }
+
+    /// An answer with no event: the lines as they stand.
+    pub fn lines(&self) -> [u8; ANSWER_SIZE] {
+        self.answer(0, Outcome::default())
+    }
+
     pub fn answer(&self, refusal: u8, outcome: Outcome) -> [u8; ANSWER_SIZE] {
         let (destination, sent) = match self.sending {
             None => (0, 0),

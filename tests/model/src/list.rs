@@ -19,6 +19,15 @@ pub fn list_refusal(list_size: usize, answers_size: usize) -> u8 {
 }
 
 impl Controller {
+    /// Runs a list from this state. A refused list changes and writes nothing.
+    pub fn run(&mut self, list: &[u8], answers: &mut [u8]) -> u8 {
+        let refusal = list_refusal(list.len(), answers.len());
+        if refusal == 0 {
+            self.run_checked(list, answers);
+        }
+        refusal
+    }
+
     /// Runs a list that has passed its checks.
     pub(crate) fn run_checked(&mut self, list: &[u8], answers: &mut [u8]) {
         let events = list.chunks_exact(EVENT_SIZE);
@@ -34,9 +43,5 @@ impl Controller {
 /// It stays a call of its own, so that its cost can be told apart.
 #[inline(never)]
 pub fn run(list: &[u8], answers: &mut [u8]) -> u8 {
-    let refusal = list_refusal(list.len(), answers.len());
-    if refusal == 0 {
-        Controller::fresh().run_checked(list, answers);
-    }
-    refusal
+    Controller::fresh().run(list, answers)
 }

@@ -1,12 +1,7 @@
 //! A run between two saved images.
 
-use crate::controller::Controller;
-use crate::image::{IMAGE_SIZE, load, save};
+use crate::image::{IMAGE_SIZE, load, store};
 use crate::list::list_refusal;
-
-fn store(state: &Controller, saved: &mut [u8]) {
-    saved[..IMAGE_SIZE].copy_from_slice(&save(state));
-}
 
 /// Loads an image, runs a list and saves. Nothing is written when refused.
 pub fn run_image(image: &[u8], list: &[u8], answers: &mut [u8], saved: &mut [u8]) -> u8 {
@@ -21,17 +16,7 @@ pub fn run_image(image: &[u8], list: &[u8], answers: &mut [u8], saved: &mut [u8]
         Err(refusal) => refusal,
         Ok(mut state) => {
             state.run_checked(list, answers);
-            store(&state, saved);
-            0
+            store(&state, saved)
         }
     }
-}
-
-/// Saves a fresh controller.
-pub fn fresh_image(saved: &mut [u8]) -> u8 {
-    if saved.len() < IMAGE_SIZE {
-        return 9;
-    }
-    store(&Controller::fresh(), saved);
-    0
 }

@@ -3,7 +3,7 @@
 mod host;
 
 use host::Host;
-use model::{Controller, IMAGE_SIZE, find, fresh_image, load, run_image, save};
+use model::{Controller, IMAGE_SIZE, encode, find, load, run_image, save, store};
 
 /// A state in which most parts differ from fresh.
 fn busy() -> Controller {
@@ -26,9 +26,10 @@ fn mend(image: &mut [u8; IMAGE_SIZE]) {
 #[test]
 fn fresh_bytes() {
     let mut saved = [0xA5; 70];
-    assert_eq!(fresh_image(&mut saved[..67]), 9);
+    let fresh = Controller::fresh();
+    assert_eq!(store(&fresh, &mut saved[..67]), 9);
     assert_eq!(saved, [0xA5; 70]);
-    assert_eq!(fresh_image(&mut saved), 0);
+    assert_eq!(store(&fresh, &mut saved), 0);
     let mut expected = [0; IMAGE_SIZE];
     expected[2] = 0xFF;
     expected[3] = 3;
@@ -37,6 +38,7 @@ fn fresh_bytes() {
     expected[60..].copy_from_slice(&[60, 0, 0x6F, 0x04, 1, 0x4B, 0x42, 0x43]);
     assert_eq!(saved[..IMAGE_SIZE], expected);
     assert_eq!(saved[IMAGE_SIZE..], [0xA5; 2]);
+    assert_eq!(encode(&fresh), expected[..60]);
 }
 
 #[test]

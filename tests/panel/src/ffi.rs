@@ -1,6 +1,28 @@
-//! The C functions of the library.
+//! The C functions of the library, as `include/calugnid.h` has them.
 
 unsafe extern "C" {
+    pub fn calugnid_start(state: *mut u8);
+    pub fn calugnid_event(state: *mut u8, kind: u8, value: u16, answer: *mut u8);
+    pub fn calugnid_run_state(
+        state: *mut u8,
+        list: *const u8,
+        list_len: usize,
+        answers: *mut u8,
+        answers_len: usize,
+    ) -> u8;
+    pub fn calugnid_run_fitting(
+        state: *mut u8,
+        list: *const u8,
+        list_len: usize,
+        answers: *mut u8,
+        answers_len: usize,
+    );
+    pub fn calugnid_save(state: *const u8, saved: *mut u8, saved_len: usize) -> u8;
+    pub fn calugnid_load(state: *mut u8, image: *const u8, image_len: usize) -> u8;
+    pub fn calugnid_lines(state: *const u8, answer: *mut u8);
+    pub fn calugnid_refusal(state: *const u8, kind: u8, value: u16) -> u8;
+    pub fn calugnid_sent_byte(state: *const u8) -> u8;
+
     pub fn calugnid_run(
         list: *const u8,
         list_len: usize,
@@ -18,7 +40,6 @@ unsafe extern "C" {
         saved_len: usize,
     ) -> u8;
     pub fn calugnid_find(image: *const u8, image_len: usize) -> usize;
-    pub fn calugnid_fresh_image(saved: *mut u8, saved_len: usize) -> u8;
     pub fn calugnid_judge(frame: u16) -> u16;
     pub fn calugnid_frame(byte: u8) -> u16;
     pub fn calugnid_translate(byte: u8, break_flag: bool) -> u16;

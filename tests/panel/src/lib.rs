@@ -1,6 +1,9 @@
 //! Safe calls into the static library under test.
 
 mod ffi;
+mod state;
+
+pub use state::{ANSWER_SIZE, Answer, STATE_SIZE, State};
 
 /// What `judge` answers for a frame that is not sound.
 pub const WRONG_PARITY: u16 = 256;
@@ -41,12 +44,6 @@ pub fn run_image(image: &[u8], list: &[u8], answers: &mut [u8], saved: &mut [u8]
 pub fn find(image: &[u8]) -> usize {
     // SAFETY: the pointer comes with the length of its slice.
     unsafe { ffi::calugnid_find(image.as_ptr(), image.len()) }
-}
-
-/// Saves a fresh controller and hands back the refusal number.
-pub fn fresh_image(saved: &mut [u8]) -> u8 {
-    // SAFETY: the pointer comes with the length of its slice.
-    unsafe { ffi::calugnid_fresh_image(saved.as_mut_ptr(), saved.len()) }
 }
 
 /// The byte of a sound frame, `WRONG_PARITY` or `BROKEN`.

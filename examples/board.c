@@ -1,0 +1,370 @@
+/* A small board: the controller, a keyboard and a mouse with queues of bytes,
+ * and a host that starts up as a PC's firmware does. Prints what each does. */
+#include <stdio.h>
+#include <stdlib.h>
+#include <string.h>
+
+#include "calugnid.h"
+
+enum { QUEUE_BYTES = 16, POLLS_MOST = 100 };
+
+struct device {
+    const char *name;
+    uint8_t kind; /* of the event that brings its frames */
+    uint8_t queue[QUEUE_BYTES];
+    size_t count;
+};
+
+struct board {
+    uint8_t state[CALUGNID_STATE_BYTES];
+    uint8_t p2; /* the lines as they are driven now */
+    struct device keyboard, mouse;
+    uint8_t opened_by; /* the key that opened the lock, until its release */
+};
+
+static void fail(const char *why)
+{
+    printf("failed: %s\n", why);
+    exit(1);
+}
+
+/* ---- The board's lines. */
+
+static void drive_line(const char *name, uint8_t bit, uint8_t before, uint8_t after)
+{
+    if ((before ^ after) & bit)
+        printf("%-9s %s\n", name, after & bit ? "up" : "down");
+}
+
+/* P2 gives levels; an interrupt controller wants to see the changes only. */
+static void drive_lines(struct board *board, const uint8_t *answer)
+{
+    uint8_t p2 = answer[CALUGNID_AT_P2];
+
+    drive_line("IRQ 1", CALUGNID_P2_KIRQ, board->p2, p2);
+    drive_line("IRQ 12", CALUGNID_P2_MIRQ, board->p2, p2);
+    board->p2 = p2;
+    if (answer[CALUGNID_AT_PULSE] & CALUGNID_P2_P20)
+        printf("%-9s pulsed\n", "reset");
+}
+
+static void board_event(struct board *board, uint8_t kind, uint16_t value, uint8_t *answer)
+{
+    calugnid_event(board->state, kind, value, answer);
+    drive_lines(board, answer);
+}
+
+/* No byte is being sent while locked, so no earlier check stands before it. */
+static bool board_locked(const struct board *board)
+{
+    return calugnid_refusal(board->state, CALUGNID_WRITE_COMMAND, 0) == CALUGNID_LOCKED;
+}
+
+static void board_start(struct board *board)
+{
+    uint8_t lines[CALUGNID_ANSWER_BYTES];
+
+    memset(board, 0, sizeof *board);
+    board->keyboard.name = "keyboard";
+    board->keyboard.kind = CALUGNID_KEYBOARD_FRAME;
+    board->mouse.name = "mouse";
+    board->mouse.kind = CALUGNID_MOUSE_FRAME;
+    calugnid_start(board->state);
+    calugnid_lines(board->state, lines);
+    board->p2 = lines[CALUGNID_AT_P2];
+}
+
+/* ---- The devices. */
+
+static void device_queue(struct device *device, uint8_t byte)
+{
+    if (device->count == QUEUE_BYTES)
+        fail("a device's queue is full");
+    device->queue[device->count++] = byte;
+}
+
+static void device_drop(struct device *device, size_t count)
+{
+    device->count -= count;
+    memmove(device->queue, device->queue + count, device->count);
+}
+
+/* FFh resets: the device acknowledges, reports that it works, and a mouse
+ * adds its number. Any other command is acknowledged. */
+static void device_answer(struct device *device, uint8_t command)
+{
+    device_queue(device, 0xFA);
+    if (command != 0xFF)
+        return;
+    device_queue(device, 0xAA);
+    if (device->kind == CALUGNID_MOUSE_FRAME)
+        device_queue(device, 0x00);
+}
+
+/* A device takes the byte sent to it. False where nothing is being sent. */
+static bool device_takes(struct board *board)
+{
+    uint8_t answer[CALUGNID_ANSWER_BYTES];
+    uint8_t byte = calugnid_sent_byte(board->state);
+    struct device *device;
+
+    calugnid_lines(board->state, answer);
+    if (answer[CALUGNID_AT_DESTINATION] == CALUGNID_TO_NOBODY)
+        return false;
+    device = answer[CALUGNID_AT_DESTINATION] == CALUGNID_TO_KEYBOARD ? &board->keyboard
+                                                                     : &board->mouse;
+    printf("%-9s takes %02X\n", device->name, byte);
+    board_event(board, CALUGNID_BYTE_TAKEN, 0, answer);
+    device_answer(device, byte);
+    return true;
+}
+
+/* The break code of the key that opened the lock would tell the host the last
+ * byte of the code, so the board keeps that release back. */
+static void keep_release_back(struct board *board)
+{
+    struct device *keyboard = &board->keyboard;
+
+    if (board->opened_by == 0 || keyboard->count < 2)
+        return;
+    if (keyboard->queue[0] != 0xF0 || keyboard->queue[1] != board->opened_by)
+        return;
+    printf("%-9s keeps the release of %02X back\n", "board", board->opened_by);
+    device_drop(keyboard, 2);
+    board->opened_by = 0;
+}
+
+/* A device sends its next byte, or holds it while the frame would be refused:
+ * refusal 5 goes once the host has read and nothing is being sent. */
+static void device_sends(struct board *board, struct device *device)
+{
+    uint8_t answer[CALUGNID_ANSWER_BYTES];
+    bool locked = board_locked(board);
+    uint8_t byte, refusal;
+
+    if (device->count == 0)
+        return;
+    byte = device->queue[0];
+    refusal = calugnid_refusal(board->state, device->kind, calugnid_frame(byte));
+    if (refusal != CALUGNID_ACCEPTED) {
+        printf("%-9s holds %02X, refusal %d\n", device->name, byte, refusal);
+        return;
+    }
+    printf("%-9s sends %02X\n", device->name, byte);
+    device_drop(device, 1);
+    board_event(board, device->kind, calugnid_frame(byte), answer);
+    if (locked && !board_locked(board))
+        board->opened_by = byte;
+}
+
+/* What the devices do in a short time: take a byte, or else send one each. */
+static void devices_turn(struct board *board)
+{
+    if (device_takes(board))
+        return;
+    keep_release_back(board);
+    device_sends(board, &board->keyboard);
+    device_sends(board, &board->mouse);
+}
+
+static void press(struct board *board, uint8_t key)
+{
+    device_queue(&board->keyboard, key);
+}
+
+static void release(struct board *board, uint8_t key)
+{
+    device_queue(&board->keyboard, 0xF0);
+    device_queue(&board->keyboard, key);
+}
+
+/* ---- The host's accesses. The devices go on while it polls the status. */
+
+static uint8_t host_status(struct board *board)
+{
+    uint8_t answer[CALUGNID_ANSWER_BYTES];
+
+    board_event(board, CALUGNID_READ_STATUS, 0, answer);
+    return answer[CALUGNID_AT_READ];
+}
+
+/* Waits until the host can read a byte, or until a write would be taken:
+ * refusal 3 goes once IBF is 0. */
+static void host_wait(struct board *board, uint8_t kind)
+{
+    bool reads = kind == CALUGNID_READ_DATA;
+    uint8_t bit = reads ? CALUGNID_STATUS_OBF : CALUGNID_STATUS_IBF;
+
+    for (int polls = 0; polls < POLLS_MOST; polls++) {
+        bool ready = ((host_status(board) & bit) != 0) == reads;
+
+        if (!ready && reads)
+            printf("%-9s waits, OBF is 0\n", "host");
+        else if (!ready)
+            printf("%-9s waits, IBF is 1, refusal %d\n", "host",
+                   calugnid_refusal(board->state, kind, 0));
+        devices_turn(board);
+        if (ready)
+            return;
+    }
+    fail("the host waited for too long");
+}
+
+static uint8_t host_write(struct board *board, uint8_t kind, uint8_t byte)
+{
+    uint8_t answer[CALUGNID_ANSWER_BYTES];
+
+    host_wait(board, kind);
+    printf("%-9s %s <- %02X\n", "host", kind == CALUGNID_WRITE_DATA ? "60h" : "64h", byte);
+    board_event(board, kind, byte, answer);
+    return answer[CALUGNID_AT_REFUSAL];
+}
+
+static uint8_t host_read(struct board *board)
+{
+    uint8_t answer[CALUGNID_ANSWER_BYTES];
+
+    host_wait(board, CALUGNID_READ_DATA);
+    calugnid_event(board->state, CALUGNID_READ_DATA, 0, answer);
+    printf("%-9s 60h -> %02X\n", "host", answer[CALUGNID_AT_READ]);
+    drive_lines(board, answer);
+    return answer[CALUGNID_AT_READ];
+}
+
+static void host_command(struct board *board, uint8_t byte)
+{
+    if (host_write(board, CALUGNID_WRITE_COMMAND, byte) != CALUGNID_ACCEPTED)
+        fail("a command was refused");
+}
+
+static void host_data(struct board *board, uint8_t byte)
+{
+    if (host_write(board, CALUGNID_WRITE_DATA, byte) != CALUGNID_ACCEPTED)
+        fail("a data byte was refused");
+}
+
+/* A byte for a device, which has to take it before the next write. */
+static void host_send(struct board *board, uint8_t byte)
+{
+    host_data(board, byte);
+    host_wait(board, CALUGNID_WRITE_DATA);
+}
+
+static void host_expect(struct board *board, uint8_t byte)
+{
+    if (host_read(board) != byte)
+        fail("the host read another byte than it expected");
+}
+
+/* ---- The host's program. */
+
+/* Both devices off, so that no byte of theirs comes among the answers. */
+static void test_controller(struct board *board)
+{
+    printf("-- tests\n");
+    host_command(board, 0xAD);
+    host_command(board, 0xA7);
+    host_command(board, 0xAA);
+    host_expect(board, 0x55);
+    host_command(board, 0xAB);
+    host_expect(board, 0x00);
+    host_command(board, 0xA9);
+    host_expect(board, 0x00);
+}
+
+/* The self-test left both devices and translation on; this adds interrupts. */
+static void set_command_byte(struct board *board)
+{
+    printf("-- command byte\n");
+    host_command(board, 0x20);
+    host_expect(board, 0x44);
+    host_command(board, 0x60);
+    host_data(board, 0x47);
+}
+
+static void reset_keyboard(struct board *board)
+{
+    printf("-- keyboard reset\n");
+    host_send(board, 0xFF);
+    host_expect(board, 0xFA);
+    host_expect(board, 0xAA);
+}
+
+static void start_mouse(struct board *board)
+{
+    printf("-- mouse reset and enabled\n");
+    host_command(board, 0xD4);
+    host_send(board, 0xFF);
+    host_expect(board, 0xFA);
+    host_expect(board, 0xAA);
+    host_expect(board, 0x00);
+    host_command(board, 0xD4);
+    host_send(board, 0xF4);
+    host_expect(board, 0xFA);
+}
+
+/* Key 1Ch of set 2 is 1Eh of set 1; its release is F0h 1Ch, read as 9Eh. */
+static void type_key(struct board *board)
+{
+    printf("-- a key\n");
+    press(board, 0x1C);
+    release(board, 0x1C);
+    host_expect(board, 0x1E);
+    host_expect(board, 0x9E);
+}
+
+/* The code 1Eh 30h, and the bytes that tell of the lock closed and opened. */
+static void load_code(struct board *board)
+{
+    printf("-- lock code\n");
+    host_command(board, 0x73);
+    host_data(board, 0xC3);
+    host_command(board, 0x74);
+    host_data(board, 0xC4);
+    host_command(board, 0xA5);
+    host_data(board, 0x1E);
+    host_data(board, 0x30);
+    host_data(board, 0x00);
+}
+
+static void type_at_lock(struct board *board, uint8_t key)
+{
+    press(board, key);
+    release(board, key);
+    for (int turns = 0; turns < 3; turns++)
+        devices_turn(board);
+}
+
+static void close_and_open(struct board *board)
+{
+    printf("-- locked\n");
+    host_command(board, 0xA6);
+    host_expect(board, 0xC3);
+    printf("%-9s refused by %d\n", "board", host_write(board, CALUGNID_WRITE_COMMAND, 0x20));
+    printf("-- a wrong second key\n");
+    type_at_lock(board, 0x1C);
+    type_at_lock(board, 0x21);
+    printf("-- the right keys\n");
+    type_at_lock(board, 0x1C);
+    type_at_lock(board, 0x32);
+    host_expect(board, 0xC4);
+    printf("-- open\n");
+    host_command(board, 0xA4);
+    host_expect(board, 0xFA);
+}
+
+int main(void)
+{
+    struct board board;
+
+    board_start(&board);
+    test_controller(&board);
+    set_command_byte(&board);
+    reset_keyboard(&board);
+    start_mouse(&board);
+    type_key(&board);
+    load_code(&board);
+    close_and_open(&board);
+    host_command(&board, 0xFE);
+    return 0;
+}

@@ -1,0 +1,134 @@
+//! A state that the library changes in place and one of the model, driven
+//! together. Every call compares all that it hands back and all sixty bytes.
+
+use crate::event::Event;
+use crate::fenced::Fenced;
+use crate::guarded::Guarded;
+use crate::random::Random;
+use model::{ANSWER_SIZE, BODY_SIZE, Controller, EVENT_SIZE, IMAGE_SIZE, encode};
+use panel::Answer;
+
+pub struct Both {
+    pub model: Controller,
+    fenced: Fenced,
+}
+
+impl Both {
+    /// A fresh controller, made where any sixty bytes were.
+    pub fn started(random: &mut Random) -> Both {
+        let mut both = Both::unmade(random);
+        both.fenced.state_mut().start();
+        both.assert_same("start");
+        both
+    }
+
+    /// A controller in the given state, made by a load.
+    pub fn of(random: &mut Random, state: &Controller) -> Both {
+        let mut both = Both::unmade(random);
+        assert_eq!(both.load(&model::save(state)), 0, "load of {state:?}");
+        both
+    }
+
+    fn unmade(random: &mut Random) -> Both {
+        Both {
+            model: Controller::fresh(),
+            fenced: Fenced::new(random),
+        }
+    }
+
+    pub fn bytes(&self) -> [u8; BODY_SIZE] {
+        self.fenced.bytes()
+    }
+
+    fn assert_same(&self, what: &str) {
+        self.fenced.assert_bytes(&encode(&self.model), what);
+    }
+
+    /// One event; hands back its answer.
+    pub fn event(&mut self, random: &mut Random, event: Event) -> Answer {
+        let before = self.bytes();
+        let expected = self.model.event(event.kind, event.value);
+        let mut buffer = Guarded::new(random, ANSWER_SIZE);
+        let state = self.fenced.state_mut();
+        state.event(event.kind, event.value, buffer.array());
+        buffer.assert_begins(&expected, "answer");
+        self.assert_same("an event");
+        if expected[0] != 0 {
+            assert_eq!(self.bytes(), before, "state after a refused event");
+        }
+        expected
+    }
+
+    /// A list; hands back the refusal number.
+    pub fn run(&mut self, random: &mut Random, list: &[u8], room: usize) -> u8 {
+        let mut answers = vec![0; room];
+        let refusal = self.model.run(list, &mut answers);
+        let events = if refusal == 0 {
+            list.len() / EVENT_SIZE
+        } else {
+            0
+        };
+        let mut buffer = Guarded::new(random, room);
+        let result = self.fenced.state_mut().run(list, buffer.inside());
+        assert_eq!(result, refusal, "refusal of a list");
+        buffer.assert_begins(&answers[..events * ANSWER_SIZE], "answers");
+        self.assert_same("a list");
+        refusal
+    }
+
+    /// What would refuse an event.
+    pub fn refusal(&self, event: Event) -> u8 {
+        let expected = self.model.refusal(event.kind, event.value);
+        let refusal = self.fenced.state().refusal(event.kind, event.value);
+        assert_eq!(refusal, expected, "refusal of {event:?}");
+        self.assert_same("a question");
+        refusal
+    }
+
+    /// The lines and the byte being sent.
+    pub fn look(&self, random: &mut Random) {
+        let mut buffer = Guarded::new(random, ANSWER_SIZE);
+        self.fenced.state().lines(buffer.array());
+        buffer.assert_begins(&self.model.lines(), "lines");
+        let sent = self.fenced.state().sent_byte();
+        assert_eq!(sent, self.model.sent_byte(), "byte being sent");
+        self.assert_same("a look");
+    }
+
+    /// Saves with the given room; hands back what was written.
+    pub fn save(&self, random: &mut Random, room: usize) -> Vec<u8> {
+        let mut saved = vec![0; room];
+        let refusal = model::store(&self.model, &mut saved);
+        saved.truncate(if refusal == 0 { IMAGE_SIZE } else { 0 });
+        let mut buffer = Guarded::new(random, room);
+        let result = self.fenced.state().save(buffer.inside());
+        assert_eq!(result, refusal, "refusal of a save");
+        buffer.assert_begins(&saved, "saved image");
+        self.assert_same("a save");
+        saved
+    }
+
+    /// Loads; hands back the refusal number. A refused load leaves whatever
+    /// bytes there are.
+    pub fn load(&mut self, image: &[u8]) -> u8 {
+        let before = self.bytes();
+        let result = self.fenced.state_mut().load(image);
+        match model::load(image) {
+            Ok(state) => {
+                assert_eq!(result, 0, "refusal of {image:02X?}");
+                self.model = state;
+                self.assert_same("a load");
+            }
+            Err(refusal) => {
+                assert_eq!(result, refusal, "refusal of {image:02X?}");
+                self.fenced.assert_bytes(&before, "a refused load");
+            }
+        }
+        result
+    }
+}
+
+/// Loads over bytes that stand for nothing; hands back the refusal number.
+pub fn load(random: &mut Random, image: &[u8]) -> u8 {
+    Both::unmade(random).load(image)
+}

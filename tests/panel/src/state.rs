@@ -1,0 +1,112 @@
+//! A controller whose state the caller keeps.
+
+use crate::ffi;
+use std::cell::UnsafeCell;
+
+pub const STATE_SIZE: usize = 60;
+pub const ANSWER_SIZE: usize = 9;
+
+pub type Answer = [u8; ANSWER_SIZE];
+
+/// Sixty bytes that the library changes in place.
+///
+/// They stand in a cell, so that a call which writes where it is only to read
+/// is seen by whoever looks at the bytes afterwards.
+#[repr(transparent)]
+pub struct State(UnsafeCell<[u8; STATE_SIZE]>);
+
+impl State {
+    /// A fresh controller.
+    pub fn fresh() -> State {
+        let mut state = State::from_bytes([0; STATE_SIZE]);
+        state.start();
+        state
+    }
+
+    /// Any sixty bytes. Only `start` and `load` make a controller of them.
+    pub fn from_bytes(bytes: [u8; STATE_SIZE]) -> State {
+        State(UnsafeCell::new(bytes))
+    }
+
+    pub fn bytes(&self) -> [u8; STATE_SIZE] {
+        // SAFETY: no reference to the bytes lives on past a call.
+        unsafe { *self.0.get() }
+    }
+
+    fn pointer(&self) -> *mut u8 {
+        self.0.get().cast()
+    }
+
+    /// Makes a fresh controller of whatever was there.
+    pub fn start(&mut self) {
+        // SAFETY: the pointer is to sixty bytes.
+        unsafe { ffi::calugnid_start(self.pointer()) }
+    }
+
+    /// Carries out one event and writes its answer.
+    pub fn event(&mut self, kind: u8, value: u16, answer: &mut Answer) {
+        // SAFETY: the pointers are to sixty bytes and to nine.
+        unsafe { ffi::calugnid_event(self.pointer(), kind, value, answer.as_mut_ptr()) }
+    }
+
+    /// Runs a list and hands back the refusal number.
+    pub fn run(&mut self, list: &[u8], answers: &mut [u8]) -> u8 {
+        // SAFETY: the first pointer is to sixty bytes, the others come with
+        // the lengths of their own slices.
+        unsafe {
+            ffi::calugnid_run_state(
+                self.pointer(),
+                list.as_ptr(),
+                list.len(),
+                answers.as_mut_ptr(),
+                answers.len(),
+            )
+        }
+    }
+
+    /// Runs a list of any length as far as the answers have room.
+    pub fn run_fitting(&mut self, list: &[u8], answers: &mut [u8]) {
+        // SAFETY: as for `run`.
+        unsafe {
+            ffi::calugnid_run_fitting(
+                self.pointer(),
+                list.as_ptr(),
+                list.len(),
+                answers.as_mut_ptr(),
+                answers.len(),
+            )
+        }
+    }
+
+    /// Saves to the front of a buffer and hands back the refusal number.
+    pub fn save(&self, saved: &mut [u8]) -> u8 {
+        // SAFETY: the first pointer is to sixty bytes, the other comes with
+        // the length of its slice.
+        unsafe { ffi::calugnid_save(self.pointer(), saved.as_mut_ptr(), saved.len()) }
+    }
+
+    /// Loads the image at the end of the bytes and hands back the refusal
+    /// number.
+    pub fn load(&mut self, image: &[u8]) -> u8 {
+        // SAFETY: as for `save`.
+        unsafe { ffi::calugnid_load(self.pointer(), image.as_ptr(), image.len()) }
+    }
+
+    /// Writes the answer that stands with no event.
+    pub fn lines(&self, answer: &mut Answer) {
+        // SAFETY: the pointers are to sixty bytes and to nine.
+        unsafe { ffi::calugnid_lines(self.pointer(), answer.as_mut_ptr()) }
+    }
+
+    /// The number that would refuse an event now, 0 for none.
+    pub fn refusal(&self, kind: u8, value: u16) -> u8 {
+        // SAFETY: the pointer is to sixty bytes.
+        unsafe { ffi::calugnid_refusal(self.pointer(), kind, value) }
+    }
+
+    /// The byte being sent, 0 with nobody.
+    pub fn sent_byte(&self) -> u8 {
+        // SAFETY: the pointer is to sixty bytes.
+        unsafe { ffi::calugnid_sent_byte(self.pointer()) }
+    }
+}
