@@ -4,8 +4,12 @@
  * A controller is a state of CALUGNID_STATE_BYTES bytes that the caller keeps
  * and lends to each call. The library has no memory of its own, allocates
  * nothing and prints nothing. Make a state by calugnid_start or calugnid_load
- * and change it by calls only. On any other sixty bytes a call still ends and
+ * and change it by calls only. On any other 61 bytes a call still ends and
  * stays inside what it is lent, but its answers promise nothing.
+ *
+ * Settings, such as mouse lock, are named at the start and stand in the last
+ * byte of the state. No event changes them. An image of edition 1 has no room
+ * for them: a save leaves them out, and a load gives the ordinary settings.
  *
  * What a caller owes:
  * - Pointers to valid memory of the size named, not null even where a length
@@ -21,6 +25,10 @@
  * - The byte read stands in the answer to the read. Take it before the next
  *   frame is fed: each event writes all nine bytes.
  * - A device keeps its frame until calugnid_refusal says 0 for it.
+ * - A load gives the ordinary settings, and no call sets mouse lock on a
+ *   controller that runs. A board that must not lose it does not load.
+ * - A frame that mouse lock keeps back is lost: the refusal is 0, so the mouse
+ *   does not send it again. This holds for replies of the mouse too.
  */
 #ifndef CALUGNID_H
 #define CALUGNID_H
@@ -35,11 +43,24 @@ extern "C" {
 
 /* Sizes in bytes. */
 enum {
-    CALUGNID_STATE_BYTES = 60,
+    CALUGNID_STATE_BYTES = 61,
     CALUGNID_IMAGE_BYTES = 68,
     CALUGNID_EVENT_BYTES = 3,   /* in a list: kind, value low, value high */
     CALUGNID_ANSWER_BYTES = 9,
     CALUGNID_LIST_MOST = 21000  /* the longest list */
+};
+
+/* Settings: the bits of `options`. Bits without a name here are not looked at.
+ * Later editions of the library may use them, so a caller leaves them 0.
+ *
+ * With mouse lock, while pin 7 of P1 is 0, a mouse frame is refused or accepted
+ * and changes the error bits as ever, but the host gets neither its byte nor
+ * the FFh of a damaged frame. The inhibit override, bit 3 of the command byte,
+ * is for the keyboard alone. The host still gets FEh for a byte to the mouse
+ * that timed out. */
+enum {
+    CALUGNID_ORDINARY = 0,     /* none of the settings below */
+    CALUGNID_MOUSE_LOCK = 0x01 /* the key switch keeps the mouse back too */
 };
 
 /* Kinds of events, and the largest value that each takes. */
@@ -92,7 +113,7 @@ enum {
     CALUGNID_STATUS_IBF = 0x02,    /* input buffer full: a byte is being sent */
     CALUGNID_STATUS_SYS = 0x04,    /* system flag, of the command byte */
     CALUGNID_STATUS_C = 0x08,      /* the last write was to port 64h */
-    CALUGNID_STATUS_SWITCH = 0x10, /* pin 7 of P1; 0 inhibits the keyboard */
+    CALUGNID_STATUS_SWITCH = 0x10, /* pin 7 of P1, the key switch; 0 when turned */
     CALUGNID_STATUS_MOUSE = 0x20,  /* the unread byte is the mouse's */
     CALUGNID_STATUS_TERR = 0x40,   /* framing error, or a byte timed out */
     CALUGNID_STATUS_PERR = 0x80    /* parity error */
@@ -123,10 +144,10 @@ enum {
     CALUGNID_BREAK_FLAG = 0x200
 };
 
-/* ---- A controller that a board keeps: `state` is 60 bytes, `answer` is 9. */
+/* ---- A controller that a board keeps: `state` is 61 bytes, `answer` is 9. */
 
-/* Makes a fresh controller. */
-void calugnid_start(uint8_t *state);
+/* Makes a fresh controller with the settings that `options` names. */
+void calugnid_start(uint8_t *state, uint8_t options);
 
 /* One event. A refused event leaves the state as it was, and its answer holds
  * the refusal and the unchanged lines. */
@@ -143,11 +164,13 @@ uint8_t calugnid_run_state(uint8_t *state, const uint8_t *list, size_t list_leng
 void calugnid_run_fitting(uint8_t *state, const uint8_t *list, size_t list_length,
                           uint8_t *answers, size_t answers_length);
 
-/* Saves to the first 68 bytes, of which 60 are the state's. 0 or 9. */
+/* Saves to the first 68 bytes. The first 60 of these are the state's, which
+ * leaves its settings out. 0 or 9. */
 uint8_t calugnid_save(const uint8_t *state, uint8_t *saved, size_t saved_length);
 
-/* Makes the controller of the image that stands at the end of `image`. 0, 10
- * or 11; refused, the state is as it was. */
+/* Makes the controller of the image that stands at the end of `image`, with
+ * the ordinary settings, whatever those of the state were. 0, 10 or 11;
+ * refused, the state is as it was, its settings too. */
 uint8_t calugnid_load(uint8_t *state, const uint8_t *image, size_t image_length);
 
 /* The lines with no event, as after a start or a load: an answer that holds 0
@@ -162,13 +185,14 @@ uint8_t calugnid_sent_byte(const uint8_t *state);
 
 /* ---- Without a state. */
 
-/* Runs a list of events on a fresh controller. 0, 7 or 8. */
-uint8_t calugnid_run(const uint8_t *list, size_t list_length,
+/* Runs a list of events on a fresh controller with the settings that `options`
+ * names. 0, 7 or 8. */
+uint8_t calugnid_run(uint8_t options, const uint8_t *list, size_t list_length,
                      uint8_t *answers, size_t answers_length);
 
-/* Loads the image at the end of `image`, runs the list, and saves to the
- * first 68 bytes of `saved`. All checks come before anything is written, in
- * the order of their numbers: 0, 7, 8, 9, 10 or 11. */
+/* Loads the image at the end of `image`, runs the list with the ordinary
+ * settings, and saves to the first 68 bytes of `saved`. All checks come before
+ * anything is written, in the order of their numbers: 0, 7, 8, 9, 10 or 11. */
 uint8_t calugnid_run_image(const uint8_t *image, size_t image_length,
                            const uint8_t *list, size_t list_length,
                            uint8_t *answers, size_t answers_length,

@@ -34,13 +34,14 @@ by_model controller_cases | cmp - crates/controller_tests/stdout
 by_model image_cases | cmp - crates/image_tests/stdout
 
 mkdir -p "$programs"
-for source in tests/c/calls.c examples/self_test.c examples/board.c; do
+for source in tests/c/calls.c examples/self_test.c examples/board.c examples/mouse_lock.c; do
     build "$source"
 done
 for language in c cxx; do
     "$programs/calls_$language"
     prints examples/self_test.expected "$programs/self_test_$language"
     prints examples/board.expected "$programs/board_$language"
+    prints examples/mouse_lock.expected "$programs/mouse_lock_$language"
 done
 
 for events in examples/*.events; do

@@ -5,6 +5,12 @@
 
 #include "calugnid.h"
 
+/* The part of a state that an image holds. The byte after it is the options. */
+enum { BODY_BYTES = 60 };
+
+/* The frame of 14h, the same with the other parity, and one without a stop bit. */
+enum { SOUND = 0x628, WRONG_PARITY = 0x428, BROKEN = 0x3FE };
+
 static int failures;
 
 #define CHECK(condition) check((condition), #condition, __LINE__)
@@ -30,19 +36,19 @@ static void try_lists(void)
 {
     uint8_t state[CALUGNID_STATE_BYTES], answers[sizeof expected];
 
-    CHECK(calugnid_run(list, sizeof list, answers, sizeof answers) == CALUGNID_ACCEPTED);
+    CHECK(calugnid_run(CALUGNID_ORDINARY, list, sizeof list, answers, sizeof answers) == 0);
     CHECK(memcmp(answers, expected, sizeof expected) == 0);
-    CHECK(calugnid_run(list, 2, answers, sizeof answers) == CALUGNID_BAD_LIST);
-    CHECK(calugnid_run(list, sizeof list, answers, 35) == CALUGNID_NO_ROOM);
+    CHECK(calugnid_run(CALUGNID_ORDINARY, list, 2, answers, sizeof answers) == CALUGNID_BAD_LIST);
+    CHECK(calugnid_run(CALUGNID_ORDINARY, list, sizeof list, answers, 35) == CALUGNID_NO_ROOM);
     memset(answers, 0xA5, sizeof answers);
-    calugnid_start(state);
+    calugnid_start(state, CALUGNID_ORDINARY);
     CHECK(calugnid_run_state(state, list, sizeof list, answers, 35) == CALUGNID_NO_ROOM);
     CHECK(calugnid_run_state(state, list, 1, answers, 35) == CALUGNID_BAD_LIST);
     CHECK(answers[0] == 0xA5);
     CHECK(calugnid_run_state(state, list, sizeof list, answers, sizeof answers) == 0);
     CHECK(memcmp(answers, expected, sizeof expected) == 0);
     memset(answers, 0xA5, sizeof answers);
-    calugnid_start(state);
+    calugnid_start(state, CALUGNID_ORDINARY);
     calugnid_run_fitting(state, list, sizeof list - 1, answers, 26);
     CHECK(memcmp(answers, expected, 18) == 0 && answers[18] == 0xA5);
 }
@@ -53,7 +59,7 @@ static void try_events(void)
     static const uint8_t sending[] = {0, 0, 0, 0x12, 0x0B, 0, 1, 0x28, 0x06};
     uint8_t state[CALUGNID_STATE_BYTES], answer[CALUGNID_ANSWER_BYTES];
 
-    calugnid_start(state);
+    calugnid_start(state, CALUGNID_ORDINARY);
     calugnid_lines(state, answer);
     CHECK(memcmp(answer, fresh, sizeof fresh) == 0);
     CHECK(calugnid_refusal(state, CALUGNID_KEYBOARD_FRAME, 0x628) == CALUGNID_NOT_READY);
@@ -69,18 +75,19 @@ static void try_events(void)
     CHECK(answer[CALUGNID_AT_REFUSAL] == CALUGNID_SENDING);
 }
 
-/* The state is the body, and an image may stand behind other bytes. */
+/* An image's body is the state without its settings, and an image may stand
+ * behind other bytes. */
 static void try_images(void)
 {
     uint8_t state[CALUGNID_STATE_BYTES], other[CALUGNID_STATE_BYTES];
     uint8_t bytes[7 + CALUGNID_IMAGE_BYTES], saved[CALUGNID_IMAGE_BYTES];
     uint8_t answers[sizeof expected];
 
-    calugnid_start(state);
+    calugnid_start(state, CALUGNID_ORDINARY);
     memset(bytes, 0, 7);
     CHECK(calugnid_save(state, saved, 67) == CALUGNID_NO_SAVE_ROOM);
     CHECK(calugnid_save(state, bytes + 7, CALUGNID_IMAGE_BYTES) == CALUGNID_ACCEPTED);
-    CHECK(memcmp(bytes + 7, state, sizeof state) == 0);
+    CHECK(memcmp(bytes + 7, state, BODY_BYTES) == 0);
     CHECK(calugnid_find(bytes, sizeof bytes) == 7);
     CHECK(calugnid_find(bytes, sizeof bytes - 1) == sizeof bytes - 1);
     CHECK(calugnid_load(other, bytes, sizeof bytes) == CALUGNID_ACCEPTED);
@@ -90,10 +97,194 @@ static void try_images(void)
                              saved, sizeof saved) == CALUGNID_ACCEPTED);
     CHECK(memcmp(answers, expected, sizeof expected) == 0);
     CHECK(calugnid_run_state(state, list, sizeof list, answers, sizeof answers) == 0);
-    CHECK(memcmp(saved, state, sizeof state) == 0);
+    CHECK(memcmp(saved, state, BODY_BYTES) == 0);
     saved[3] |= 4; /* a third latch, and the sum mended for it */
     saved[63] += 4;
     CHECK(calugnid_load(other, saved, sizeof saved) == CALUGNID_BAD_BODY);
+}
+
+/* Fresh whatever the options, which stand in byte 60 less their unused bits. */
+static void try_starts(void)
+{
+    uint8_t state[CALUGNID_STATE_BYTES], fresh[CALUGNID_STATE_BYTES] = {0};
+
+    fresh[2] = 0xFF;  /* P1 */
+    fresh[3] = 3;     /* both latches */
+    fresh[28] = 0x70; /* command byte */
+    for (int options = 0; options < 256; options++) {
+        fresh[BODY_BYTES] = options % 2 == 1 ? CALUGNID_MOUSE_LOCK : CALUGNID_ORDINARY;
+        memset(state, 0xA5, sizeof state);
+        calugnid_start(state, (uint8_t)options);
+        CHECK(memcmp(state, fresh, sizeof fresh) == 0);
+    }
+}
+
+/* Mouse on, key switch turned, a mouse frame, a read; and the answers with the
+ * ordinary settings and with mouse lock. */
+static const uint8_t turned[] = {3, 0xA8, 0, 8, 0x7F, 0, 5, 0x28, 6, 0, 0, 0};
+static const uint8_t shown[] = {
+    0, 0x00, 0, 0x18, 0x43, 0, 0, 0, 0,
+    0, 0x00, 0, 0x08, 0x43, 0, 0, 0, 0,
+    0, 0x00, 0, 0x29, 0x43, 0, 0, 0, 0,
+    0, 0x14, 0, 0x08, 0x43, 0, 0, 0, 0,
+};
+static const uint8_t kept_back[] = {
+    0, 0x00, 0, 0x18, 0x43, 0, 0, 0, 0,
+    0, 0x00, 0, 0x08, 0x43, 0, 0, 0, 0,
+    0, 0x00, 0, 0x08, 0x43, 0, 0, 0, 0,
+    0, 0x00, 1, 0x08, 0x43, 0, 0, 0, 0,
+};
+
+static void try_lists_with_options(void)
+{
+    uint8_t state[CALUGNID_STATE_BYTES], answers[sizeof shown];
+
+    for (int options = 0; options < 256; options++) {
+        const uint8_t *right = options % 2 == 1 ? kept_back : shown;
+
+        memset(answers, 0xA5, sizeof answers);
+        CHECK(calugnid_run((uint8_t)options, turned, sizeof turned, answers, 36) == 0);
+        CHECK(memcmp(answers, right, sizeof answers) == 0);
+        calugnid_start(state, (uint8_t)options);
+        memset(answers, 0xA5, sizeof answers);
+        CHECK(calugnid_run_state(state, turned, sizeof turned, answers, 36) == 0);
+        CHECK(memcmp(answers, right, sizeof answers) == 0);
+        calugnid_start(state, (uint8_t)options);
+        memset(answers, 0xA5, sizeof answers);
+        calugnid_run_fitting(state, turned, sizeof turned, answers, sizeof answers);
+        CHECK(memcmp(answers, right, sizeof answers) == 0);
+    }
+}
+
+/* Whether the event is accepted, reads nothing and leaves these lines, with
+ * nothing being sent. */
+static bool leaves(uint8_t *state, uint8_t kind, uint16_t value, uint8_t status, uint8_t p2)
+{
+    const uint8_t right[] = {0, 0, 0, status, p2, 0, 0, 0, 0};
+    uint8_t answer[CALUGNID_ANSWER_BYTES];
+
+    calugnid_event(state, kind, value, answer);
+    return memcmp(answer, right, sizeof right) == 0;
+}
+
+/* Whether the host reads this byte, new or old. */
+static bool reads(uint8_t *state, uint8_t byte, bool old)
+{
+    uint8_t answer[CALUGNID_ANSWER_BYTES];
+
+    calugnid_event(state, CALUGNID_READ_DATA, 0, answer);
+    return answer[CALUGNID_AT_READ] == byte && (answer[CALUGNID_AT_OLD] == 1) == old;
+}
+
+/* A controller with this command byte, which has both devices on, and the key
+ * switch turned. */
+static void start_turned(uint8_t *state, uint8_t options, uint8_t command_byte)
+{
+    calugnid_start(state, options);
+    CHECK(leaves(state, CALUGNID_WRITE_COMMAND, 0x60, 0x18, 0x4B));
+    CHECK(leaves(state, CALUGNID_WRITE_DATA, command_byte, 0x10, 0x03));
+    CHECK(leaves(state, CALUGNID_PINS, 0x7F, 0x00, 0x03));
+}
+
+/* The mouse's interrupt on, without and with the inhibit override. */
+static const uint8_t command_bytes[] = {0x02, 0x0A};
+
+/* No mouse frame puts a byte until the key switch is turned back, but the error
+ * bits tell of each. */
+static void try_mouse_lock(void)
+{
+    uint8_t state[CALUGNID_STATE_BYTES];
+
+    for (size_t i = 0; i < sizeof command_bytes; i++) {
+        start_turned(state, CALUGNID_MOUSE_LOCK, command_bytes[i]);
+        CHECK(leaves(state, CALUGNID_MOUSE_FRAME, WRONG_PARITY, 0x80, 0x03));
+        CHECK(leaves(state, CALUGNID_MOUSE_FRAME, BROKEN, 0x40, 0x03));
+        CHECK(leaves(state, CALUGNID_MOUSE_FRAME, SOUND, 0x00, 0x03));
+        CHECK(reads(state, 0x00, true));
+        CHECK(leaves(state, CALUGNID_PINS, 0x80, 0x10, 0x03));
+        CHECK(leaves(state, CALUGNID_MOUSE_FRAME, SOUND, 0x31, 0x23));
+        CHECK(reads(state, 0x14, false));
+    }
+}
+
+/* With the ordinary settings each mouse frame puts a byte, key switch or not. */
+static void try_no_mouse_lock(void)
+{
+    uint8_t state[CALUGNID_STATE_BYTES];
+
+    for (size_t i = 0; i < sizeof command_bytes; i++) {
+        start_turned(state, CALUGNID_ORDINARY, command_bytes[i]);
+        CHECK(leaves(state, CALUGNID_MOUSE_FRAME, WRONG_PARITY, 0xA1, 0x23));
+        CHECK(reads(state, 0xFF, false));
+        CHECK(leaves(state, CALUGNID_MOUSE_FRAME, BROKEN, 0x61, 0x23));
+        CHECK(reads(state, 0xFF, false));
+        CHECK(leaves(state, CALUGNID_MOUSE_FRAME, SOUND, 0x21, 0x23));
+        CHECK(reads(state, 0x14, false));
+    }
+}
+
+/* Mouse lock keeps back nothing but frames of the mouse: not the FEh of a byte
+ * that timed out, no byte that the host puts, and no key past the override. */
+static void try_beside_mouse_lock(void)
+{
+    uint8_t state[CALUGNID_STATE_BYTES], answer[CALUGNID_ANSWER_BYTES];
+
+    start_turned(state, CALUGNID_MOUSE_LOCK, 0x0A);
+    CHECK(leaves(state, CALUGNID_WRITE_COMMAND, 0xD4, 0x08, 0x03));
+    calugnid_event(state, CALUGNID_WRITE_DATA, 0xF4, answer);
+    CHECK(answer[CALUGNID_AT_DESTINATION] == CALUGNID_TO_MOUSE);
+    CHECK(calugnid_refusal(state, CALUGNID_MOUSE_FRAME, SOUND) == CALUGNID_NOT_READY);
+    CHECK(leaves(state, CALUGNID_BYTE_TIMED_OUT, 0, 0x61, 0x23));
+    CHECK(calugnid_refusal(state, CALUGNID_MOUSE_FRAME, SOUND) == CALUGNID_NOT_READY);
+    CHECK(reads(state, 0xFE, false));
+    CHECK(leaves(state, CALUGNID_WRITE_COMMAND, 0xD3, 0x48, 0x03));
+    CHECK(leaves(state, CALUGNID_WRITE_DATA, 0x5A, 0x61, 0x23));
+    CHECK(reads(state, 0x5A, false));
+    CHECK(leaves(state, CALUGNID_KEYBOARD_FRAME, SOUND, 0x01, 0x03));
+    CHECK(reads(state, 0x14, false));
+    CHECK(calugnid_refusal(state, CALUGNID_MOUSE_FRAME, SOUND) == CALUGNID_ACCEPTED);
+    CHECK(leaves(state, CALUGNID_WRITE_COMMAND, 0xA7, 0x08, 0x0B));
+    CHECK(calugnid_refusal(state, CALUGNID_MOUSE_FRAME, SOUND) == CALUGNID_NOT_READY);
+}
+
+/* An image has no room for mouse lock: a save leaves it out, so that a load
+ * loses it. A refused load keeps it. */
+static void try_loads_with_mouse_lock(void)
+{
+    uint8_t state[CALUGNID_STATE_BYTES], before[CALUGNID_STATE_BYTES];
+    uint8_t image[CALUGNID_IMAGE_BYTES], ordinary[CALUGNID_IMAGE_BYTES];
+
+    start_turned(state, CALUGNID_ORDINARY, 0x02);
+    CHECK(calugnid_save(state, ordinary, sizeof ordinary) == CALUGNID_ACCEPTED);
+    start_turned(state, CALUGNID_MOUSE_LOCK, 0x02);
+    CHECK(calugnid_save(state, image, sizeof image) == CALUGNID_ACCEPTED);
+    CHECK(memcmp(image, ordinary, sizeof image) == 0);
+    memcpy(before, state, sizeof state);
+    CHECK(calugnid_load(state, image, 67) == CALUGNID_BAD_IMAGE);
+    CHECK(memcmp(state, before, sizeof state) == 0);
+    image[3] |= 4; /* a third latch, and the sum mended for it */
+    image[63] += 4;
+    CHECK(calugnid_load(state, image, sizeof image) == CALUGNID_BAD_BODY);
+    CHECK(memcmp(state, before, sizeof state) == 0);
+    CHECK(leaves(state, CALUGNID_MOUSE_FRAME, SOUND, 0x00, 0x03));
+    CHECK(calugnid_load(state, ordinary, sizeof ordinary) == CALUGNID_ACCEPTED);
+    CHECK(memcmp(state, before, BODY_BYTES) == 0);
+    CHECK(state[BODY_BYTES] == CALUGNID_ORDINARY);
+    CHECK(leaves(state, CALUGNID_MOUSE_FRAME, SOUND, 0x21, 0x23));
+    CHECK(reads(state, 0x14, false));
+}
+
+/* The call that loads, runs and saves has the ordinary settings. */
+static void try_run_image_with_mouse_lock(void)
+{
+    uint8_t state[CALUGNID_STATE_BYTES], answers[sizeof shown];
+    uint8_t image[CALUGNID_IMAGE_BYTES], saved[CALUGNID_IMAGE_BYTES];
+
+    calugnid_start(state, CALUGNID_MOUSE_LOCK);
+    CHECK(calugnid_save(state, image, sizeof image) == CALUGNID_ACCEPTED);
+    CHECK(calugnid_run_image(image, sizeof image, turned, sizeof turned, answers, sizeof answers,
+                             saved, sizeof saved) == CALUGNID_ACCEPTED);
+    CHECK(memcmp(answers, shown, sizeof shown) == 0);
 }
 
 static void try_numbers(void)
@@ -112,6 +303,13 @@ int main(void)
     try_lists();
     try_events();
     try_images();
+    try_starts();
+    try_lists_with_options();
+    try_mouse_lock();
+    try_no_mouse_lock();
+    try_beside_mouse_lock();
+    try_loads_with_mouse_lock();
+    try_run_image_with_mouse_lock();
     try_numbers();
     return failures != 0;
 }

@@ -1,18 +1,19 @@
--- What the controller's calls promise, over the machine that the state's bytes stand for. Each says: the machine's rule on any sixty bytes;
+-- What the controller's calls promise, over the machine that the state's bytes stand for. Each says: the machine's rule on any bytes;
 -- every byte of the state, where they are those of their machine; and that the body rules are kept.
 use mathlib.Core.Path.{_≡_}
 use Prim.Native.Nat.{ℕ}
 use mathlib.Core.List.{List, [], _∷_}
+use Rattle.machine.specs.Settings.{Settings}
 use Rattle.machine.specs.State.{fresh}
 use Rattle.machine.specs.Events.{Event, step, answer, lines, refusal}
 use Rattle.machine.specs.Run.{events, after, filled, fitting, listRefusal}
 use Rattle.machine.specs.Kept.{Kept}
-use Rattle.machine.specs.View.{view, public, body, IsBody}
+use Rattle.machine.specs.View.{view, public, stateOf, IsState}
 
 -- One event: the machine's step and its nine bytes. A refused event changes no byte of the state.
 pub record EventAnswered (s : List ℕ) (e : Event) (s′ reply : List ℕ) : Type 0 where
   pub stepped : view s′ ≡ step (view s) e
-  pub bytes : IsBody s → s′ ≡ body (step (view s) e)
+  pub bytes : IsState s → s′ ≡ stateOf (step (view s) e)
   pub answered : reply ≡ answer (view s) e
   pub unchanged : (refusal (public s) e ≡ 0 → ⊥) → s′ ≡ s
   pub kept : Kept (view s) → Kept (view s′)
@@ -20,7 +21,7 @@ pub record EventAnswered (s : List ℕ) (e : Event) (s′ reply : List ℕ) : Ty
 -- A list, as far as the answer buffer has room: the machine after it, and the buffer.
 pub record FittingRun (s list space s′ space′ : List ℕ) : Type 0 where
   pub machine : view s′ ≡ after (view s) (fitting list space)
-  pub bytes : IsBody s → s′ ≡ body (after (view s) (fitting list space))
+  pub bytes : IsState s → s′ ≡ stateOf (after (view s) (fitting list space))
   pub buffer : space′ ≡ filled (view s) (fitting list space) space
   pub kept : Kept (view s) → Kept (view s′)
 
@@ -29,12 +30,12 @@ pub record ListRun (s list space : List ℕ) (number : ℕ) (s′ space′ : Lis
   pub refusal : number ≡ listRefusal list space
   pub refused : (listRefusal list space ≡ 0 → ⊥) → (s′ ≡ s) × (space′ ≡ space)
   pub machine : listRefusal list space ≡ 0 → view s′ ≡ after (view s) (events list)
-  pub bytes : listRefusal list space ≡ 0 → IsBody s → s′ ≡ body (after (view s) (events list))
+  pub bytes : listRefusal list space ≡ 0 → IsState s → s′ ≡ stateOf (after (view s) (events list))
   pub buffer : listRefusal list space ≡ 0 → space′ ≡ filled (view s) (events list) space
   pub kept : Kept (view s) → Kept (view s′)
 
--- A list run from fresh: refused by its number with the buffer as it was, or all its answers written.
-pub record FreshRun (list space space′ : List ℕ) (number : ℕ) : Type 0 where
+-- A list run from a start with these settings: refused by its number with the buffer as it was, or all its answers written.
+pub record FreshRun (x : Settings) (list space space′ : List ℕ) (number : ℕ) : Type 0 where
   pub refusal : number ≡ listRefusal list space
   pub refused : (listRefusal list space ≡ 0 → ⊥) → space′ ≡ space
-  pub answered : listRefusal list space ≡ 0 → space′ ≡ filled fresh (events list) space
+  pub answered : listRefusal list space ≡ 0 → space′ ≡ filled (fresh x) (events list) space

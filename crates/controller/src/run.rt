@@ -1,5 +1,6 @@
 // A list of events: each writes its nine answer bytes and hands on the rest of the answer buffer.
 use crate::events::respond;
+use machine::settings::Settings;
 use machine::state::State;
 use machine::state::start;
 ghost use mathlib.Core.Path.{_≡_};
@@ -8,7 +9,7 @@ ghost use lib.ListN.{length};
 ghost use Rattle.machine.specs.Events as events;
 ghost use Rattle.machine.specs.Events.{event};
 ghost use Rattle.machine.specs.Run.{first, lengthRefusal};
-ghost use Rattle.machine.specs.View.{public};
+ghost use Rattle.machine.specs.View.{public, named};
 ghost use Rattle.controller.specs.Promises.{EventAnswered, FittingRun, ListRun, FreshRun};
 ghost use Rattle.controller.specs.Steps.{EventWritten, PieceRun};
 
@@ -106,10 +107,10 @@ pub fn run(s: &mut State, list: &[u8], answers: &mut [u8]) -> u8
     0
 }
 
-// A list run by a fresh controller, whose state is not wanted afterwards.
-pub fn run_fresh(list: &[u8], answers: &mut [u8]) -> u8
-    ensures { λ r. ⌜ FreshRun (now (list .entry)) (now (answers .entry)) (now (answers .exit)) r ⌝ }
+// A list run by a controller that these settings start, whose state is not wanted afterwards.
+pub fn run_fresh(settings: Settings, list: &[u8], answers: &mut [u8]) -> u8
+    ensures { λ r. ⌜ FreshRun (named settings) (now (list .entry)) (now (answers .entry)) (now (answers .exit)) r ⌝ }
 {
-    let mut s = start();
+    let mut s = start(settings);
     run(&mut s, list, answers)
 }

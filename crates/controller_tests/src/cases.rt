@@ -1,6 +1,7 @@
 // The cases. An event is its three bytes in hexadecimal.
 // This file is Rust as well: the generator of the expected output includes it.
 use crate::case;
+use crate::locked_case;
 use crate::sized;
 
 // Eight events over and over.
@@ -116,5 +117,33 @@ pub fn frames() {
     case(
         b"F0h yields nothing and sets bit 7 of the next byte",
         b"03AE00 04E007 000000 04F204 000000 04F204 000000 04E007 04FF07 000000 04F204 000000",
+    );
+}
+
+// The key switch and the mouse, with the mouse lock on but for the last case.
+pub fn mouse_lock() {
+    locked_case(
+        b"a turned key keeps a sound mouse byte from the host",
+        b"03A800 087F00 052806 020000 000000",
+    );
+    locked_case(
+        b"bad mouse frames change the errors and put no FFh",
+        b"03A800 087F00 052804 052802 052806 020000 000000",
+    );
+    locked_case(
+        b"mode bit 3 helps the keyboard and not the mouse",
+        b"036000 014800 087F00 052806 042806 000000 052804 042804 000000",
+    );
+    locked_case(
+        b"mouse bytes are put again once the key is turned back",
+        b"03A800 087F00 052806 08FF00 052806 000000 052804 000000",
+    );
+    locked_case(
+        b"FEh after a time-out is put with the key turned",
+        b"03A800 087F00 03D400 01F400 070000 020000 000000",
+    );
+    case(
+        b"a turned key keeps no mouse byte back without the mouse lock",
+        b"03A800 087F00 052806 020000 000000",
     );
 }

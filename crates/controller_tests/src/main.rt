@@ -3,6 +3,8 @@ mod cases;
 
 use controller::run::run_fresh;
 use libc::STDOUT_FILENO;
+use machine::settings::Settings;
+use machine::settings::ordinary;
 ghost use Prim.Native.Nat.{_*_, _≤_, _<_};
 ghost use lib.ListN.{length};
 
@@ -165,7 +167,7 @@ fn run_part(list: &[u8], bytes: usize, answers: &mut [u8], space: usize) -> u8 {
     if answers.len() < space {
         return 0xFF;
     }
-    run_fresh(&list[..bytes], &mut answers[..space])
+    run_fresh(ordinary(), &list[..bytes], &mut answers[..space])
 }
 
 // A list of some events over and over: that many bytes of it are run, with that much space for the answers.
@@ -179,15 +181,25 @@ pub fn sized(name: &[u8], events: &[u8], bytes: usize, space: usize) {
     put_outcome(refusal, &answers, bytes / 3);
 }
 
-// A list of a few events, and each answer.
-pub fn case(name: &[u8], events: &[u8]) {
+// A list of a few events run from a start with these settings, and each answer.
+fn started_case(settings: Settings, name: &[u8], events: &[u8]) {
     let mut list = [0u8; 96];
     let n = parse(events, &mut list);
     let mut answers = [MARK; 288];
-    run_fresh(&list[..n], &mut answers);
+    run_fresh(settings, &list[..n], &mut answers);
     put(name);
     put(b"\n");
     put_answers(&answers[..n / 3 * 9]);
+}
+
+// With the ordinary settings.
+pub fn case(name: &[u8], events: &[u8]) {
+    started_case(ordinary(), name, events);
+}
+
+// With the mouse lock.
+pub fn locked_case(name: &[u8], events: &[u8]) {
+    started_case(Settings { mouse_lock: true }, name, events);
 }
 
 fn main() {
@@ -197,4 +209,5 @@ fn main() {
     cases::loads();
     cases::lock();
     cases::frames();
+    cases::mouse_lock();
 }

@@ -6,6 +6,7 @@ use machine::events::Told;
 use machine::events::quiet;
 use machine::events::value;
 use machine::lines::locked;
+use machine::lines::mouse_inhibited;
 use machine::lines::put_mouse;
 use machine::state::State;
 use translation::frames::Verdict;
@@ -18,11 +19,11 @@ ghost use Rattle.machine.specs.Events.{event};
 ghost use Rattle.machine.specs.Changed.{Changed};
 ghost use Rattle.machine.specs.Told.{EventTold};
 
-// A byte for the host, unless locked.
+// A byte for the host, unless locked or kept back by the key switch.
 fn put_from_mouse(s: &mut State, byte: u8)
     ensures { λ _. ⌜ Changed (lift (frame.mousePut byte)) (now (s .entry)) (now (s .exit)) ⌝ }
 {
-    if locked(s) {
+    if locked(s) | mouse_inhibited(s) {
         return;
     }
     put_mouse(s, byte);

@@ -6,7 +6,7 @@ use Rattle.machine.specs.State.{Machine}
 use Rattle.machine.specs.View.{body}
 use Rattle.image.specs.Sum.{lowByte, highByte, sum}
 
--- How many bytes a body of edition 1 has, as many as the state; a trailer; and an image of edition 1.
+-- How many bytes a body of edition 1 has, a trailer, and an image of edition 1.
 abbrev pub bodyLength : ℕ
 bodyLength = 60
 

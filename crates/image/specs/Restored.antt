@@ -1,5 +1,5 @@
--- A saved machine is restored exactly. The bytes hold the machine's image at their end: that of every machine that keeps the body rules does,
--- whatever stands before it, and so do all bytes that a load accepts (proofs/Laws/RoundTrip).
+-- A saved machine is restored exactly. The bytes hold the machine's image at their end: that of every machine that keeps the body rules and has
+-- the ordinary settings does, whatever stands before it, and so do all bytes that a load accepts (proofs/Laws/RoundTrip).
 use mathlib.Core.Path.{_≡_}
 use mathlib.Core.List.{List}
 use Prim.Native.Nat.{ℕ}

@@ -5,14 +5,13 @@ use mathlib.Core.Bool.{cond}
 use mathlib.Core.List.{List, _++_}
 use lib.Dec.{eqb}
 use lib.ListN.{length, drop}
+use Rattle.machine.specs.Settings.{ordinary}
 use Rattle.machine.specs.State.{Machine}
 use Rattle.machine.specs.Events.{Event}
 use Rattle.machine.specs.Run.{events, after, answers, filled, listRefusal}
 use Rattle.machine.specs.Kept.{Kept}
-use Rattle.machine.specs.View.{view}
 use Rattle.image.specs.Layout.{image}
-use Rattle.image.specs.Find.{found}
-use Rattle.image.specs.Load.{loadRefusal}
+use Rattle.image.specs.Load.{loadRefusal, resumed}
 use Rattle.image.specs.Save.{saveRefusal, saved}
 
 -- Checks 7 and 8 for the list and the answer buffer, 9 for the space of the save, 10 and 11 for the image.
@@ -27,12 +26,12 @@ pub record SplitRun (m : Machine) (es fs : List Event) (space room space′ room
   pub imaged : room′ ≡ saved (after m (es ++ fs)) room
 
 -- Refused by its number, with both buffers as they were; or the answers of the list from the image's machine, and the image of the machine
--- after it. An image that was saved in the middle of a run makes it a split run: run, save, load, run is the run.
+-- after it. An image that was saved in the middle of a run with the ordinary settings makes it a split run: run, save, load, run is the run.
 pub record ImageRun (bytes list space room : List ℕ) (number : ℕ) (space′ room′ : List ℕ) : Type 0 where
   pub refusal : number ≡ runRefusal bytes list space room
   pub refused : (runRefusal bytes list space room ≡ 0 → ⊥) → (space′ ≡ space) × (room′ ≡ room)
-  pub answered : runRefusal bytes list space room ≡ 0 → space′ ≡ filled (view (found bytes)) (events list) space
-  pub imaged : runRefusal bytes list space room ≡ 0 → room′ ≡ saved (after (view (found bytes)) (events list)) room
-  pub split : (m : Machine) (es : List Event) (front : List ℕ) → Kept m → bytes ≡ front ++ image (after m es) →
+  pub answered : runRefusal bytes list space room ≡ 0 → space′ ≡ filled (resumed bytes) (events list) space
+  pub imaged : runRefusal bytes list space room ≡ 0 → room′ ≡ saved (after (resumed bytes) (events list)) room
+  pub split : (m : Machine) (es : List Event) (front : List ℕ) → Kept m → m .plain .settings ≡ ordinary → bytes ≡ front ++ image (after m es) →
       listRefusal list space ≡ 0 → saveRefusal room ≡ 0 →
       (number ≡ 0) × SplitRun m es (events list) space room space′ room′

@@ -2,10 +2,10 @@
 use Prim.Native.Nat.{ℕ}
 use mathlib.Core.Bool.{cond}
 use mathlib.Core.List.{List, _++_}
-use lib.ListN.{length, drop}
+use lib.ListN.{length, take, drop}
 use lib.Dec.{ltb}
 use Rattle.machine.specs.State.{Machine}
-use Rattle.image.specs.Layout.{imageLength, sealed, image}
+use Rattle.image.specs.Layout.{bodyLength, imageLength, sealed, image}
 
 -- Check 9: under 68 bytes of space.
 unfoldable pub saveRefusal : List ℕ → ℕ
@@ -15,9 +15,9 @@ saveRefusal space = cond (ltb (length space) imageLength) 9 0
 unfoldable pub written : List ℕ → List ℕ → List ℕ
 written bytes space = cond (ltb (length space) imageLength) space (bytes ++ drop imageLength space)
 
--- the space after the save of a state's bytes, whatever they are, and of a machine
+-- the space after the save of a state's bytes, whatever they are, and of a machine; the settings are not saved
 abbrev pub savedBytes : List ℕ → List ℕ → List ℕ
-savedBytes s space = written (sealed 1 s) space
+savedBytes s space = written (sealed 1 (take bodyLength s)) space
 
 abbrev pub saved : Machine → List ℕ → List ℕ
 saved m space = written (image m) space

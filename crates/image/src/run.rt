@@ -5,6 +5,7 @@ use crate::save::NO_ROOM;
 use crate::save::save;
 use controller::run::list_refusal;
 use controller::run::run;
+use machine::settings::ordinary;
 use machine::state::start;
 ghost use Rattle.image.specs.Run.{ImageRun};
 
@@ -20,7 +21,7 @@ pub fn run_image(image: &[u8], list: &[u8], answers: &mut [u8], saved: &mut [u8]
     if saved.len() < IMAGE {
         return NO_ROOM;
     }
-    let mut s = start();
+    let mut s = start(ordinary());
     let refusal = load(&mut s, image);
     if refusal != 0 {
         return refusal;

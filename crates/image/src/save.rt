@@ -17,7 +17,8 @@ pub fn save(s: &State, out: &mut [u8]) -> u8
     if out.len() < IMAGE {
         return NO_ROOM;
     }
-    let body = &s[..];
+    let bytes = &s[..];
+    let body = &bytes[..BODY];
     let tail = trailer(EDITION, body);
     copy_in(out, 0, body);
     copy_in(out, BODY, &tail);

@@ -8,10 +8,12 @@ use machine::flags::with_breaks;
 use machine::flags::with_command;
 use machine::flags::with_errors;
 use machine::flags::with_output;
+use machine::settings::ordinary;
 use machine::state::CODE;
 use machine::state::FLAGS;
 use machine::state::LATCHES;
 use machine::state::LENGTH;
+use machine::state::OPTIONS;
 use machine::state::OUTPUT;
 use machine::state::PINS;
 use machine::state::RAM;
@@ -94,7 +96,7 @@ fn put_code(s: &mut State, n: u8) {
 
 // A state with something in each of its parts, and a lock code of n bytes.
 fn sample(n: u8) -> State {
-    let mut s = [0u8; 60];
+    let mut s = [0u8; 61];
     s[OUTPUT] = 0x41;
     s[FLAGS] = flags();
     s[PINS] = 0xA5;
@@ -103,6 +105,7 @@ fn sample(n: u8) -> State {
     s[RAM] = 0x65;
     s[RAM + 19] = 0x55;
     s[RAM + 31] = 0xFF;
+    s[OPTIONS] = 1;
     s
 }
 
@@ -153,7 +156,7 @@ fn try_save(out: &mut [u8]) {
 }
 
 fn try_load(bytes: &[u8]) {
-    let mut s = start();
+    let mut s = start(ordinary());
     let refusal = load(&mut s, bytes);
     let mut out = [0u8; 68];
     save(&s, &mut out);

@@ -7,7 +7,7 @@ use Rattle.translation.specs.Bits.{has}
 use Rattle.translation.specs.Frames.{Check, sound, parity, broken, check}
 use Rattle.translation.specs.ScanCodes.{Translation, Yielded, nothing, byte, translate, raw, builtIn}
 use Rattle.machine.specs.State.{Public, Machine, withErrors, withPorts, withBreaks, withLocked, lift, withSecret}
-use Rattle.machine.specs.Lines.{put, putMouse, putCell, cellOf, inhibited, translates}
+use Rattle.machine.specs.Lines.{put, putMouse, putCell, cellOf, inhibited, mouseInhibited, translates}
 use Rattle.machine.specs.DataPort.{send}
 
 -- The error bits after a frame: a broken one sets TERR, a wrong parity PERR, and the other is cleared.
@@ -78,9 +78,9 @@ keyboardFrame (sound b) m = soundKey b m
 keyboardFrame parity m = damagedKey false true m
 keyboardFrame broken m = damagedKey true false m
 
--- A mouse frame sets the errors likewise; its byte, or FFh for a damaged one, is put unless locked.
+-- A mouse frame sets the errors likewise; its byte, or FFh for a damaged one, is put unless locked or kept back by the mouse lock.
 unfoldable pub mousePut : ℕ → Public → Public
-mousePut b p = cond (p .locked) p (putMouse b p)
+mousePut b p = cond (p .locked || mouseInhibited p) p (putMouse b p)
 
 unfoldable pub mouseFrame : Check → Public → Public
 mouseFrame (sound b) p = mousePut b (errorsSet false false p)

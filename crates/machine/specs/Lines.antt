@@ -73,6 +73,10 @@ keySwitch p = has (p .ports .pins) 7
 abbrev pub inhibited : Public → Bool
 inhibited p = not (keySwitch p) && not (override p)
 
+-- With the mouse lock it keeps the mouse from the host too, and the mode byte does not override that (document 02, W1).
+abbrev pub mouseInhibited : Public → Bool
+mouseInhibited p = p .settings .mouseLock && not (keySwitch p)
+
 -- four lines as a number, the first the lowest
 unfoldable pub nibble : Bool → Bool → Bool → Bool → ℕ
 nibble a b c d = weight 1 a + weight 2 b + weight 4 c + weight 8 d

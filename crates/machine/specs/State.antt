@@ -3,6 +3,7 @@ use Prim.Native.Nat.{ℕ}
 use mathlib.Core.Bool.{Bool, true, false}
 use mathlib.Core.List.{List, [], _∷_}
 use lib.ListN.{replicate}
+use Rattle.machine.specs.Settings.{Settings}
 
 -- The output buffer: its byte, output buffer full (OBF), and whether the byte came from the mouse; with OBF 0 the source is the keyboard.
 pub record Output : Type 0 where
@@ -34,7 +35,8 @@ pub record Sending : Type 0 where
   pub to : ℕ
   pub byte : ℕ
 
--- `breaks` is the break flag of the scan code translation. Cell 0 of the RAM is the mode byte, the field's command byte.
+-- `breaks` is the break flag of the scan code translation. Cell 0 of the RAM is the mode byte, the field's command byte. The settings are those of
+-- the start.
 pub record Public : Type 0 where
   pub output : Output
   pub errors : Errors
@@ -44,6 +46,7 @@ pub record Public : Type 0 where
   pub breaks : Bool
   pub locked : Bool
   pub ram : List ℕ
+  pub settings : Settings
 
 -- The lock code, the paper's password, and the position: how many of its bytes have been typed.
 pub record Secret : Type 0 where
@@ -56,28 +59,28 @@ pub record Machine : Type 0 where
 
 -- one part replaced
 abbrev pub withOutput : Public → Output → Public
-withOutput p x = record { output = x; errors = p .errors; host = p .host; ports = p .ports; sending = p .sending; breaks = p .breaks; locked = p .locked; ram = p .ram }
+withOutput p x = record { output = x; errors = p .errors; host = p .host; ports = p .ports; sending = p .sending; breaks = p .breaks; locked = p .locked; ram = p .ram; settings = p .settings }
 
 abbrev pub withErrors : Public → Errors → Public
-withErrors p x = record { output = p .output; errors = x; host = p .host; ports = p .ports; sending = p .sending; breaks = p .breaks; locked = p .locked; ram = p .ram }
+withErrors p x = record { output = p .output; errors = x; host = p .host; ports = p .ports; sending = p .sending; breaks = p .breaks; locked = p .locked; ram = p .ram; settings = p .settings }
 
 abbrev pub withHost : Public → Host → Public
-withHost p x = record { output = p .output; errors = p .errors; host = x; ports = p .ports; sending = p .sending; breaks = p .breaks; locked = p .locked; ram = p .ram }
+withHost p x = record { output = p .output; errors = p .errors; host = x; ports = p .ports; sending = p .sending; breaks = p .breaks; locked = p .locked; ram = p .ram; settings = p .settings }
 
 abbrev pub withPorts : Public → Ports → Public
-withPorts p x = record { output = p .output; errors = p .errors; host = p .host; ports = x; sending = p .sending; breaks = p .breaks; locked = p .locked; ram = p .ram }
+withPorts p x = record { output = p .output; errors = p .errors; host = p .host; ports = x; sending = p .sending; breaks = p .breaks; locked = p .locked; ram = p .ram; settings = p .settings }
 
 abbrev pub withSending : Public → Sending → Public
-withSending p x = record { output = p .output; errors = p .errors; host = p .host; ports = p .ports; sending = x; breaks = p .breaks; locked = p .locked; ram = p .ram }
+withSending p x = record { output = p .output; errors = p .errors; host = p .host; ports = p .ports; sending = x; breaks = p .breaks; locked = p .locked; ram = p .ram; settings = p .settings }
 
 abbrev pub withBreaks : Public → Bool → Public
-withBreaks p x = record { output = p .output; errors = p .errors; host = p .host; ports = p .ports; sending = p .sending; breaks = x; locked = p .locked; ram = p .ram }
+withBreaks p x = record { output = p .output; errors = p .errors; host = p .host; ports = p .ports; sending = p .sending; breaks = x; locked = p .locked; ram = p .ram; settings = p .settings }
 
 abbrev pub withLocked : Public → Bool → Public
-withLocked p x = record { output = p .output; errors = p .errors; host = p .host; ports = p .ports; sending = p .sending; breaks = p .breaks; locked = x; ram = p .ram }
+withLocked p x = record { output = p .output; errors = p .errors; host = p .host; ports = p .ports; sending = p .sending; breaks = p .breaks; locked = x; ram = p .ram; settings = p .settings }
 
 abbrev pub withRam : Public → List ℕ → Public
-withRam p x = record { output = p .output; errors = p .errors; host = p .host; ports = p .ports; sending = p .sending; breaks = p .breaks; locked = p .locked; ram = x }
+withRam p x = record { output = p .output; errors = p .errors; host = p .host; ports = p .ports; sending = p .sending; breaks = p .breaks; locked = p .locked; ram = x; settings = p .settings }
 
 -- a rule of the public part, said of the whole machine
 abbrev pub lift : (Public → Public) → Machine → Machine
@@ -86,9 +89,9 @@ lift f m = record { plain = f (m .plain); secret = m .secret }
 abbrev pub withSecret : Machine → Secret → Machine
 withSecret m x = record { plain = m .plain; secret = x }
 
--- Fresh: P1 FFh, both latches 1, the mode byte 70h, all else 0 or none.
-unfoldable pub fresh : Machine
-fresh =
+-- Fresh, as a start with these settings leaves it: P1 FFh, both latches 1, the mode byte 70h, all else 0 or none.
+unfoldable pub fresh : Settings → Machine
+fresh x =
     record {
       plain = record {
         output = record { byte = 0; full = false; mouse = false };
@@ -99,6 +102,7 @@ fresh =
         breaks = false;
         locked = false;
         ram = 0x70 ∷ replicate 31 0;
+        settings = x;
       };
       secret = record { code = []; position = 0 };
     }

@@ -1,4 +1,5 @@
--- "Saved image", the body: the bytes that the program holds its state in are those that an image has of it. One table, read both ways.
+-- "Saved image", the body: the first bytes that the program holds its state in are those that an image has of it; the settings of the start
+-- stand behind them. One table, read both ways.
 use Prim.Native.Nat.{ℕ, _+_, _-_, _*_}
 use mathlib.Core.Path.{_≡_}
 use mathlib.Core.Bool.{false}
@@ -6,13 +7,15 @@ use mathlib.Core.List.{List, [], _∷_, _++_}
 use lib.Dec.{eqb}
 use lib.ListN.{length, getD, take, drop, replicate}
 use Rattle.translation.specs.Bits.{has}
+use Rattle.machine.specs.Settings.{Settings, settingsOf}
 use Rattle.machine.specs.State.{Machine, Public}
 use Rattle.machine.specs.Lines.{nibble}
 use Rattle.machine.specs.Flags.{flagsOf}
+use Rattle.machine.specs.declared.settings.Settings as program
 
 -- how many bytes the state has
 abbrev pub stateLength : ℕ
-stateLength = 60
+stateLength = 61
 
 -- Byte 1: OBF, mouse source, C, TERR, PERR, break, locked in bits 0-6.
 abbrev pub flags : Public → ℕ
@@ -46,15 +49,27 @@ head m =
 abbrev pub padded : List ℕ → List ℕ
 padded code = code ++ replicate (16 - length code) 0
 
--- The bytes of a machine; 28-59 are the RAM.
+-- The bytes that an image has of a machine; 28-59 are the RAM.
 unfoldable pub body : Machine → List ℕ
 body m = head m ++ padded (m .secret .code) ++ m .plain .ram
+
+-- Byte 60: the options, mouse lock in bit 0.
+abbrev pub optionsOf : Settings → ℕ
+optionsOf x = nibble (x .mouseLock) false false false
+
+-- what a state has behind those bytes
+abbrev pub beyond : Public → List ℕ
+beyond p = optionsOf (p .settings) ∷ []
+
+-- The bytes of a machine.
+unfoldable pub stateOf : Machine → List ℕ
+stateOf m = body m ++ beyond (m .plain)
 
 -- byte k
 abbrev pub at : List ℕ → ℕ → ℕ
 at s k = getD s k 0
 
--- The machine of sixty bytes, whatever they are: the same table, read.
+-- The machine of so many bytes, whatever they are: the same table, read.
 abbrev pub public : List ℕ → Public
 public s =
     let flags = flagsOf (at s 1) in
@@ -67,6 +82,7 @@ public s =
       breaks = flags .breaks;
       locked = flags .locked;
       ram = at s 28 ∷ take 31 (drop 29 s);
+      settings = settingsOf (at s 60);
     }
 
 -- the lock code's length is byte 10, and its bytes stand from byte 12 on
@@ -74,5 +90,9 @@ abbrev pub view : List ℕ → Machine
 view s = record { plain = public s; secret = record { code = take (at s 10) (take 16 (drop 12 s)); position = at s 11 } }
 
 -- The bytes are those of their machine: what stands for nothing in them is 0.
-abbrev pub IsBody : List ℕ → Type 0
-IsBody s = s ≡ body (view s)
+abbrev pub IsState : List ℕ → Type 0
+IsState s = s ≡ stateOf (view s)
+
+-- the settings that a caller's struct names
+abbrev pub named : program.Settings → Settings
+named x = record { mouseLock = x .«mouse_lock» }

@@ -1,4 +1,5 @@
--- "How the contracts are judged", 4: worked examples as the rows of one table, and what it is for a row to hold of the machine from fresh.
+-- "How the contracts are judged", 4: worked examples as the rows of one table, and what it is for a row to hold of the machine from fresh,
+-- started with the ordinary settings.
 use Prim.Native.Nat.{ℕ, _/_, _%_}
 use mathlib.Core.Bool.{Bool, true, false, cond, not, _&&_, _||_}
 use mathlib.Core.List.{List, [], _∷_, _++_, map}
@@ -6,6 +7,7 @@ use lib.ListN.{getD}
 use lib.Dec.{eqb}
 use Rattle.translation.specs.Frames.{Check, sound, parity, broken, check, frame}
 use Rattle.translation.specs.ScanCodes.{from}
+use Rattle.machine.specs.Settings.{ordinary}
 use Rattle.machine.specs.State.{Machine, fresh}
 use Rattle.machine.specs.Events.{Event, event, step, answer}
 use Rattle.machine.specs.Run.{after}
@@ -83,18 +85,18 @@ abbrev pub loading : ℕ → List Event
 loading n = loaded (from 1 n) ++ (byteTaken ∷ [])
 
 abbrev pub codeAfter : List Event → List ℕ
-codeAfter es = after fresh es .secret .code
+codeAfter es = after (fresh ordinary) es .secret .code
 
 -- What a row says, of the machine from fresh. The mode byte 00h has the keyboard on and translation off.
 unfoldable pub holds : Row → Bool
-holds (gives bytes codes) = same (reads fresh (command 0xAE ∷ typed bytes)) codes
+holds (gives bytes codes) = same (reads (fresh ordinary) (command 0xAE ∷ typed bytes)) codes
 holds (found f c) =
     same (shown (check f)) (shown c)
-    && same (reads fresh (command 0x60 ∷ written 0 ∷ frameEvent f ∷ statusRead ∷ dataRead ∷ [])) (shown c)
-holds (opens code bytes) = opensAt (after fresh (command 0xAE ∷ (loaded code ++ (command 0xA6 ∷ [])))) bytes
+    && same (reads (fresh ordinary) (command 0x60 ∷ written 0 ∷ frameEvent f ∷ statusRead ∷ dataRead ∷ [])) (shown c)
+holds (opens code bytes) = opensAt (after (fresh ordinary) (command 0xAE ∷ (loaded code ++ (command 0xA6 ∷ [])))) bytes
 holds (loads n ok) =
     same (codeAfter (loading n)) (cond ok (from 1 n) [])
-    && same (reads fresh (loading n ++ (command 0xA4 ∷ dataRead ∷ []))) (cond ok 0xFA 0xF1 ∷ [])
+    && same (reads (fresh ordinary) (loading n ++ (command 0xA4 ∷ dataRead ∷ []))) (cond ok 0xFA 0xF1 ∷ [])
 
 -- every row of a table holds
 unfoldable pub allHold : List Row → Bool

@@ -2,5 +2,6 @@
 pub mod events;
 pub mod flags;
 pub mod lines;
+pub mod settings;
 pub mod state;
 pub mod weights;

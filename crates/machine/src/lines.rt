@@ -4,6 +4,7 @@ use crate::state::FLAGS;
 use crate::state::LATCHES;
 use crate::state::MODE;
 use crate::state::NIBBLE;
+use crate::state::OPTIONS;
 use crate::state::OUTPUT;
 use crate::state::OVERLAY;
 use crate::state::PINS;
@@ -91,6 +92,13 @@ pub fn inhibited(s: &State) -> bool
     ensures { λ r. ⌜ r ≡ lines.inhibited (public (now (s .entry))) ⌝ }
 {
     (s[PINS] / 128 % 2 != 1) & (s[MODE] / 8 % 2 != 1)
+}
+
+// The key switch is turned and locks the mouse too, whatever the mode byte says.
+pub fn mouse_inhibited(s: &State) -> bool
+    ensures { λ r. ⌜ r ≡ lines.mouseInhibited (public (now (s .entry))) ⌝ }
+{
+    (s[OPTIONS] / 1 % 2 == 1) & (s[PINS] / 128 % 2 != 1)
 }
 
 // Bits 4-7 of the status.

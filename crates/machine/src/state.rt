@@ -1,11 +1,13 @@
-// The controller's state: sixty bytes, which a run changes in place. They are those of a saved image's body.
+// The controller's state: bytes that a run changes in place. The first sixty are those of a saved image's body; the settings stand behind them.
+use crate::settings::Settings;
+use crate::settings::options_of;
 ghost use mathlib.Core.Path.{_≡_};
 ghost use Prim.Native.Nat.{_≤_};
 ghost use lib.ListN.{length};
 ghost use Rattle.machine.specs.State.{fresh};
-ghost use Rattle.machine.specs.View.{stateLength, body, view};
+ghost use Rattle.machine.specs.View.{stateLength, stateOf, view, named};
 
-pub type State = [u8; 60];
+pub type State = [u8; 61];
 
 // The output byte, which the host reads at port 60h.
 pub const OUTPUT: usize = 0;
@@ -44,6 +46,9 @@ pub const RAM: usize = 28;
 
 pub const MODE: usize = 28;
 
+// The options of the start, which no event changes: mouse lock in bit 0.
+pub const OPTIONS: usize = 60;
+
 // The length that the type has, told to the proofs: they do not learn it of an array behind a reference. It compiles to nothing.
 pub fn sized(s: State)
     ensures { λ _. ⌜ length s ≡ stateLength ⌝ }
@@ -59,12 +64,13 @@ pub fn code_length(s: &State) -> u8
 }
 
 // A controller after power-on.
-pub fn start() -> State
-    ensures { λ r. ⌜ (r ≡ body fresh) × (view r ≡ fresh) ⌝ }
+pub fn start(settings: Settings) -> State
+    ensures { λ r. ⌜ (r ≡ stateOf (fresh (named settings))) × (view r ≡ fresh (named settings)) ⌝ }
 {
-    let mut s = [0u8; 60];
+    let mut s = [0u8; 61];
     s[PINS] = 0xFF;
     s[LATCHES] = 3;
     s[MODE] = 0x70;
+    s[OPTIONS] = options_of(settings);
     s
 }

@@ -7,22 +7,24 @@ use controller::run::run_fitting;
 use controller::run::show_lines;
 use image::load::load;
 use image::save::save;
+use machine::settings::settings_of;
 use machine::state::State;
 use machine::state::start;
 ghost use mathlib.Core.Path.{_≡_};
+ghost use Rattle.machine.specs.Settings.{settingsOf};
 ghost use Rattle.machine.specs.State.{fresh};
 ghost use Rattle.machine.specs.Events as events;
-ghost use Rattle.machine.specs.View.{public, body};
+ghost use Rattle.machine.specs.View.{public, stateOf};
 ghost use Rattle.controller.specs.Promises.{EventAnswered, FittingRun, ListRun};
 ghost use Rattle.image.specs.Promises.{Saved, Loaded};
 ghost use Rattle.panel.specs.Values.{eventOf};
 
-// A controller after power-on.
+// A controller after power-on, with the settings that the options name.
 #[no_mangle]
-pub extern "C" fn calugnid_start(state: &mut State)
-    ensures { λ _. ⌜ now (state .exit) ≡ body fresh ⌝ }
+pub extern "C" fn calugnid_start(state: &mut State, options: u8)
+    ensures { λ _. ⌜ now (state .exit) ≡ stateOf (fresh (settingsOf options)) ⌝ }
 {
-    *state = start();
+    *state = start(settings_of(options));
 }
 
 // One event, and its nine answer bytes.
@@ -79,7 +81,7 @@ pub extern "C" fn calugnid_run_fitting(state: &mut State, list: &[u8], answers: 
     run_fitting(state, list, answers);
 }
 
-// The state saved: 0, or 9 with nothing written.
+// The state saved, but for its settings: 0, or 9 with nothing written.
 #[no_mangle]
 pub extern "C" fn calugnid_save(state: &State, saved: &mut [u8]) -> u8
     ensures { λ r. ⌜ Saved (now (state .entry)) (now (saved .entry)) r (now (saved .exit)) ⌝ }
@@ -87,7 +89,7 @@ pub extern "C" fn calugnid_save(state: &State, saved: &mut [u8]) -> u8
     save(state, saved)
 }
 
-// The state of the image at the end of the bytes: 0, or 10 or 11 with the state as it was.
+// The state of the image at the end of the bytes, with the ordinary settings: 0, or 10 or 11 with the state as it was.
 #[no_mangle]
 pub extern "C" fn calugnid_load(state: &mut State, image: &[u8]) -> u8
     ensures { λ r. ⌜ Loaded (now (state .entry)) (now (image .entry)) r (now (state .exit)) ⌝ }

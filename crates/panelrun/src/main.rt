@@ -1,6 +1,7 @@
 // Reads a list of events to the end of standard input, and prints its page.
 use libc::STDIN_FILENO;
 use libc::STDOUT_FILENO;
+use machine::settings::ordinary;
 use printing::page::print_list;
 
 // One byte more than the longest list, so that a longer input is seen to be one.
@@ -15,6 +16,6 @@ fn main() {
     let mut answers = [0u8; ANSWERS];
     let mut page = [0u8; PAGE];
     let got = io::read_full(STDIN_FILENO, &mut list);
-    let length = print_list(&list[..got], &mut answers, &mut page);
+    let length = print_list(ordinary(), &list[..got], &mut answers, &mut page);
     io::write_all(STDOUT_FILENO, &page[..length]);
 }

@@ -5,6 +5,7 @@ use mathlib.Core.Bool.{Bool, cond, _&&_}
 use mathlib.Core.List.{List, [], _∷_, _++_}
 use lib.ListN.{length, drop}
 use lib.Dec.{eqb, leb}
+use Rattle.machine.specs.Settings.{Settings}
 use Rattle.machine.specs.State.{fresh}
 use Rattle.machine.specs.Run.{events, answers, lengthRefusal}
 use Rattle.printing.specs.Lines.{lines}
@@ -25,13 +26,13 @@ refusedLength n = eqb (lengthRefusal n 0) 7
 abbrev pub refused : List ℕ → Bool
 refused list = refusedLength (length list)
 
--- the answers to a list run from fresh; a refused one has none
-unfoldable pub answered : List ℕ → List ℕ
-answered list = cond (refused list) [] (answers fresh (events list))
+-- the answers to a list run from a start with these settings; a refused one has none
+unfoldable pub answered : Settings → List ℕ → List ℕ
+answered x list = cond (refused list) [] (answers (fresh x) (events list))
 
 -- "Prints a header and one line an event; refusal 7 prints only `refused 7`."
-unfoldable pub page : List ℕ → List ℕ
-page list = cond (refused list) refusedText (header ++ lines (length (events list)) (answered list))
+unfoldable pub page : Settings → List ℕ → List ℕ
+page x list = cond (refused list) refusedText (header ++ lines (length (events list)) (answered x list))
 
 -- A buffer with some bytes written at its front; those past them stay.
 abbrev pub over : List ℕ → List ℕ → List ℕ
@@ -43,12 +44,12 @@ pub record Written (bytes out : List ℕ) (r : ℕ) (out′ : List ℕ) : Type 0
   pub text : out′ ≡ cond (leb (length bytes) (length out)) (over bytes out) out
 
 -- each buffer is large enough for its bytes
-unfoldable pub room : List ℕ → List ℕ → List ℕ → Bool
-room list space out = leb (length (answered list)) (length space) && leb (length (page list)) (length out)
+unfoldable pub room : Settings → List ℕ → List ℕ → List ℕ → Bool
+room x list space out = leb (length (answered x list)) (length space) && leb (length (page x list)) (length out)
 
 -- The page of a list in one buffer, its answers in the other, and the page's length; or, where there is no room, the buffers as they
 -- were, and 0, which is the length of no page.
-pub record Printed (list space out : List ℕ) (r : ℕ) (space′ out′ : List ℕ) : Type 0 where
-  pub count : r ≡ cond (room list space out) (length (page list)) 0
-  pub answers : space′ ≡ cond (room list space out) (over (answered list) space) space
-  pub text : out′ ≡ cond (room list space out) (over (page list) out) out
+pub record Printed (x : Settings) (list space out : List ℕ) (r : ℕ) (space′ out′ : List ℕ) : Type 0 where
+  pub count : r ≡ cond (room x list space out) (length (page x list)) 0
+  pub answers : space′ ≡ cond (room x list space out) (over (answered x list) space) space
+  pub text : out′ ≡ cond (room x list space out) (over (page x list) out) out

@@ -2,10 +2,12 @@
 use crate::lines::write_lines;
 use controller::run::list_refusal;
 use controller::run::run_fresh;
+use machine::settings::Settings;
 ghost use mathlib.Core.Path.{_≡_};
 ghost use mathlib.Core.List.{_++_};
 ghost use Prim.Native.Nat.{_+_, _*_, _≤_};
 ghost use lib.ListN.{length};
+ghost use Rattle.machine.specs.View.{named};
 ghost use Rattle.printing.specs.Lines.{lines};
 ghost use Rattle.printing.specs.Page.{header, refusedText, refusedLength, over, Written, Printed};
 
@@ -36,10 +38,10 @@ fn print_answers(count: usize, answers: &[u8], out: &mut [u8]) -> usize
     28 + 27 * count
 }
 
-// Runs a list from fresh, with its answers in one buffer and its text in the other, and returns how long the text is.
+// Runs a list from a start with these settings, its answers in one buffer and its text in the other, and returns how long the text is.
 // Where a buffer is too small for its bytes, neither is written and the result is 0.
-pub fn print_list(list: &[u8], answers: &mut [u8], out: &mut [u8]) -> usize
-    ensures { λ r. ⌜ Printed (now (list .entry)) (now (answers .entry)) (now (out .entry)) r (now (answers .exit)) (now (out .exit)) ⌝ }
+pub fn print_list(settings: Settings, list: &[u8], answers: &mut [u8], out: &mut [u8]) -> usize
+    ensures { λ r. ⌜ Printed (named settings) (now (list .entry)) (now (answers .entry)) (now (out .entry)) r (now (answers .exit)) (now (out .exit)) ⌝ }
 {
     if is_refused(list.len()) {
         return print_refused(out);
@@ -51,6 +53,6 @@ pub fn print_list(list: &[u8], answers: &mut [u8], out: &mut [u8]) -> usize
     if out.len() < 28 + 27 * count {
         return 0;
     }
-    run_fresh(list, answers);
+    run_fresh(settings, list, answers);
     print_answers(count, answers, out)
 }

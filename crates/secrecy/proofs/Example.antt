@@ -8,6 +8,7 @@ use native.Mathlib.Omega.{arith}
 use lib.Dec.{eqb, lit≤}
 use Rattle.translation.specs.Frames.{check, ones}
 use Rattle.translation.specs.ScanCodes.{translate, builtIn, rows}
+use Rattle.machine.specs.Settings.{Settings}
 use Rattle.machine.specs.State.{fresh}
 use Rattle.machine.specs.Lines.{putCell}
 use Rattle.machine.specs.DataPort.{loadByte, writeData}
@@ -34,32 +35,34 @@ second = typed 0x30 0x64
 some-injective : {e f : Event} → some e ≡ some f → e ≡ f
 some-injective p = cc
 
-differ : (k : ℕ) (e f : Event) → At first k e → At second k f → Allowed (before fresh first k) e f
-unfolding fresh after step refusal stateRefusal accept writeCommand acts loadCut pendingOf plainCommand lockedUp putCell writeData loadByte check ones
-differ zero e f p q = same (cc)
-differ (suc zero) e f p q = same (cc)
-differ (suc (suc zero)) e f p q =
-    subst₂ (Allowed (before fresh first 2)) (some-injective p) (some-injective q)
-    (loading refl (record { kind = refl; low = lit≤ tt; high = lit≤ tt }) (record { kind = refl; low = lit≤ tt; high = lit≤ tt }))
-differ (suc (suc (suc zero))) e f p q = same (cc)
-differ (suc (suc (suc (suc zero)))) e f p q = same (cc)
-differ (suc (suc (suc (suc (suc zero))))) e f p q =
-    subst₂ (Allowed (before fresh first 5)) (some-injective p) (some-injective q)
-    (trying refl (record { kind = refl; byte = 0x1C; frame = refl; low = lit≤ tt; high = lit≤ tt })
-    (record { kind = refl; byte = 0x32; frame = refl; low = lit≤ tt; high = lit≤ tt }))
-differ (suc (suc (suc (suc (suc (suc k)))))) e f p q = same (cc)
+-- whichever settings both start with
+module _ (x : Settings) where
+  differ : (k : ℕ) (e f : Event) → At first k e → At second k f → Allowed (before (fresh x) first k) e f
+  unfolding fresh after step refusal stateRefusal accept writeCommand acts loadCut pendingOf plainCommand lockedUp putCell writeData loadByte check ones
+  differ zero e f p q = same (cc)
+  differ (suc zero) e f p q = same (cc)
+  differ (suc (suc zero)) e f p q =
+      subst₂ (Allowed (before (fresh x) first 2)) (some-injective p) (some-injective q)
+      (loading refl (record { kind = refl; low = lit≤ tt; high = lit≤ tt }) (record { kind = refl; low = lit≤ tt; high = lit≤ tt }))
+  differ (suc (suc (suc zero))) e f p q = same (cc)
+  differ (suc (suc (suc (suc zero)))) e f p q = same (cc)
+  differ (suc (suc (suc (suc (suc zero))))) e f p q =
+      subst₂ (Allowed (before (fresh x) first 5)) (some-injective p) (some-injective q)
+      (trying refl (record { kind = refl; byte = 0x1C; frame = refl; low = lit≤ tt; high = lit≤ tt })
+      (record { kind = refl; byte = 0x32; frame = refl; low = lit≤ tt; high = lit≤ tt }))
+  differ (suc (suc (suc (suc (suc (suc k)))))) e f p q = same (cc)
 
--- in both lists the lock opens at the last place and at no other
-pub opens-last : (k : ℕ) → k < 6 → (opens fresh first k ≡ eqb k 5) × (opens fresh second k ≡ eqb k 5)
-unfolding fresh after step refusal stateRefusal accept writeCommand acts loadCut pendingOf plainCommand lockedUp putCell writeData loadByte check ones
-    keyboardFrame soundKey translated translate builtIn rows keyed keyedByte try advanced
-opens-last zero h = (refl, refl)
-opens-last (suc zero) h = (refl, refl)
-opens-last (suc (suc zero)) h = (refl, refl)
-opens-last (suc (suc (suc zero))) h = (refl, refl)
-opens-last (suc (suc (suc (suc zero)))) h = (refl, refl)
-opens-last (suc (suc (suc (suc (suc zero))))) h = (refl, refl)
-opens-last (suc (suc (suc (suc (suc (suc k)))))) h = absurd (omega arith)
+  -- in both lists the lock opens at the last place and at no other
+  pub opens-last : (k : ℕ) → k < 6 → (opens (fresh x) first k ≡ eqb k 5) × (opens (fresh x) second k ≡ eqb k 5)
+  unfolding fresh after step refusal stateRefusal accept writeCommand acts loadCut pendingOf plainCommand lockedUp putCell writeData loadByte check ones
+      keyboardFrame soundKey translated translate builtIn rows keyed keyedByte try advanced
+  opens-last zero h = (refl, refl)
+  opens-last (suc zero) h = (refl, refl)
+  opens-last (suc (suc zero)) h = (refl, refl)
+  opens-last (suc (suc (suc zero))) h = (refl, refl)
+  opens-last (suc (suc (suc (suc zero)))) h = (refl, refl)
+  opens-last (suc (suc (suc (suc (suc zero))))) h = (refl, refl)
+  opens-last (suc (suc (suc (suc (suc (suc k)))))) h = absurd (omega arith)
 
-pub paired : Paired fresh first second
-paired = record { lengths = refl; differ = differ; openings = λ k h. opens-last k h .0 ∙ sym (opens-last k h .1) }
+  pub paired : Paired (fresh x) first second
+  paired = record { lengths = refl; differ = differ; openings = λ k h. opens-last k h .0 ∙ sym (opens-last k h .1) }

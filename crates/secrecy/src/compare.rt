@@ -1,7 +1,9 @@
-// Two lists of events, each run from a fresh controller into a buffer of its own.
+// Two lists of events, each run by a controller of its own into a buffer of its own. Both are started with the same settings.
 use controller::run::run_fitting;
 use controller::run::run_fresh;
+use machine::settings::Settings;
 use machine::state::start;
+ghost use Rattle.machine.specs.View.{named};
 ghost use Rattle.secrecy.specs.Compared.{ListsCompared, FittingCompared};
 
 // The refusal numbers of the two calls.
@@ -11,20 +13,32 @@ pub struct Numbers {
 }
 
 // Each list by a whole call.
-pub fn run_both(one: &[u8], answers: &mut [u8], other: &[u8], others: &mut [u8]) -> Numbers
-    ensures { λ r. ⌜ ListsCompared (now (one .entry)) (now (answers .entry)) (now (answers .exit)) (now (other .entry)) (now (others .entry)) (now (others .exit)) r ⌝ }
+pub fn run_both(
+    settings: Settings,
+    one: &[u8],
+    answers: &mut [u8],
+    other: &[u8],
+    others: &mut [u8],
+) -> Numbers
+    ensures { λ r. ⌜ ListsCompared (named settings) (now (one .entry)) (now (answers .entry)) (now (answers .exit)) (now (other .entry)) (now (others .entry)) (now (others .exit)) r ⌝ }
 {
-    let first = run_fresh(one, answers);
-    let second = run_fresh(other, others);
+    let first = run_fresh(settings, one, answers);
+    let second = run_fresh(settings, other, others);
     Numbers { first, second }
 }
 
 // Each list event by event, whatever its length.
-pub fn run_both_fitting(one: &[u8], answers: &mut [u8], other: &[u8], others: &mut [u8])
-    ensures { λ _. ⌜ FittingCompared (now (one .entry)) (now (answers .entry)) (now (answers .exit)) (now (other .entry)) (now (others .entry)) (now (others .exit)) ⌝ }
+pub fn run_both_fitting(
+    settings: Settings,
+    one: &[u8],
+    answers: &mut [u8],
+    other: &[u8],
+    others: &mut [u8],
+)
+    ensures { λ _. ⌜ FittingCompared (named settings) (now (one .entry)) (now (answers .entry)) (now (answers .exit)) (now (other .entry)) (now (others .entry)) (now (others .exit)) ⌝ }
 {
-    let mut s = start();
+    let mut s = start(settings);
     run_fitting(&mut s, one, answers);
-    let mut t = start();
+    let mut t = start(settings);
     run_fitting(&mut t, other, others);
 }

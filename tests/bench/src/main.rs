@@ -2,13 +2,14 @@
 //!
 //! `bench CASE` prints the number of events run by each of the two, for a
 //! profiler around it to divide by. `bench events` does so with one call an
-//! event. `bench stack WHO` makes a single run.
+//! event. `bench stack WHO` makes a single run. All of them are under the
+//! ordinary settings.
 
 mod cases;
 mod measured;
 
 use cases::Case;
-use model::Controller;
+use model::{Controller, Settings};
 use panel::State;
 use std::process::ExitCode;
 
@@ -33,7 +34,8 @@ fn profile(case: &Case) {
 fn profile_events(case: &Case) {
     case.check();
     let (mut by_library, mut by_model) = ([0; 9], [0; 9]);
-    let (mut state, mut model) = (State::fresh(), Controller::fresh());
+    let mut state = State::fresh(panel::ORDINARY);
+    let mut model = Controller::fresh(Settings::ORDINARY);
     for event in case.list.chunks_exact(3) {
         let (kind, value) = (event[0], u16::from_le_bytes([event[1], event[2]]));
         measured::measured_library_event(&mut state, kind, value, &mut by_library);

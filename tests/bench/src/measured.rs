@@ -3,20 +3,20 @@
 //! Each does something after its inner call, so that none becomes a jump and
 //! the cost of the callee stays inside.
 
-use model::Controller;
+use model::{Controller, Settings};
 use panel::{Answer, State};
 use std::hint::black_box;
 
 #[inline(never)]
 #[unsafe(no_mangle)]
 pub fn measured_library(list: &[u8], answers: &mut [u8]) -> u8 {
-    black_box(panel::run(list, answers))
+    black_box(panel::run(panel::ORDINARY, list, answers))
 }
 
 #[inline(never)]
 #[unsafe(no_mangle)]
 pub fn measured_model(list: &[u8], answers: &mut [u8]) -> u8 {
-    black_box(model::run(list, answers))
+    black_box(model::run(Settings::ORDINARY, list, answers))
 }
 
 #[inline(never)]

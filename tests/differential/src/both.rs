@@ -1,11 +1,11 @@
 //! A state that the library changes in place and one of the model, driven
-//! together. Every call compares all that it hands back and all sixty bytes.
+//! together. Every call compares all that it hands back and every byte.
 
 use crate::event::Event;
 use crate::fenced::Fenced;
 use crate::guarded::Guarded;
 use crate::random::Random;
-use model::{ANSWER_SIZE, BODY_SIZE, Controller, EVENT_SIZE, IMAGE_SIZE, encode};
+use model::{ANSWER_SIZE, Controller, EVENT_SIZE, IMAGE_SIZE, STATE_SIZE, Settings, state_bytes};
 use panel::Answer;
 
 pub struct Both {
@@ -14,16 +14,24 @@ pub struct Both {
 }
 
 impl Both {
-    /// A fresh controller, made where any sixty bytes were.
-    pub fn started(random: &mut Random) -> Both {
+    /// A fresh controller, made where any bytes were.
+    pub fn started(random: &mut Random, settings: Settings) -> Both {
         let mut both = Both::unmade(random);
-        both.fenced.state_mut().start();
+        both.fenced.state_mut().start(settings.options());
+        both.model = Controller::fresh(settings);
         both.assert_same("start");
         both
     }
 
-    /// A controller in the given state, made by a load.
+    /// A controller in the given state. It is loaded where the settings are
+    /// the ordinary ones, which a load gives, and else made of its bytes.
     pub fn of(random: &mut Random, state: &Controller) -> Both {
+        if state.settings != Settings::ORDINARY {
+            return Both {
+                model: state.clone(),
+                fenced: Fenced::around(random, state_bytes(state)),
+            };
+        }
         let mut both = Both::unmade(random);
         assert_eq!(both.load(&model::save(state)), 0, "load of {state:?}");
         both
@@ -31,17 +39,17 @@ impl Both {
 
     fn unmade(random: &mut Random) -> Both {
         Both {
-            model: Controller::fresh(),
+            model: Controller::fresh(Settings::ORDINARY),
             fenced: Fenced::new(random),
         }
     }
 
-    pub fn bytes(&self) -> [u8; BODY_SIZE] {
+    pub fn bytes(&self) -> [u8; STATE_SIZE] {
         self.fenced.bytes()
     }
 
     fn assert_same(&self, what: &str) {
-        self.fenced.assert_bytes(&encode(&self.model), what);
+        self.fenced.assert_bytes(&state_bytes(&self.model), what);
     }
 
     /// One event; hands back its answer.

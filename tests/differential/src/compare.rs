@@ -2,7 +2,7 @@
 
 use crate::guarded::Guarded;
 use crate::random::Random;
-use model::{ANSWER_SIZE, EVENT_SIZE, IMAGE_SIZE};
+use model::{ANSWER_SIZE, EVENT_SIZE, IMAGE_SIZE, Settings};
 
 /// What a run wrote, by the model; empty when it was refused.
 pub struct Written {
@@ -16,17 +16,14 @@ fn answers_size(list: &[u8]) -> usize {
 }
 
 /// Runs a list from fresh in both with an answer buffer of the given size.
-pub fn run(random: &mut Random, list: &[u8], room: usize) -> Written {
+pub fn run(random: &mut Random, settings: Settings, list: &[u8], room: usize) -> Written {
     let mut answers = vec![0; room];
-    let refusal = model::run(list, &mut answers);
+    let refusal = model::run(settings, list, &mut answers);
     answers.truncate(if refusal == 0 { answers_size(list) } else { 0 });
 
     let mut buffer = Guarded::new(random, room);
-    assert_eq!(
-        panel::run(list, buffer.inside()),
-        refusal,
-        "refusal of a list"
-    );
+    let result = panel::run(settings.options(), list, buffer.inside());
+    assert_eq!(result, refusal, "refusal of a list");
     buffer.assert_begins(&answers, "answers");
     Written {
         refusal,

@@ -1,7 +1,8 @@
 //! Counts what generated lists really reach, so that tests can ask for it.
 
 use crate::event::{Event, kind};
-use model::{Controller, PASSWORD_LIMIT, Pending, Verdict, judge};
+use crate::mouse_coverage::MouseCoverage;
+use model::{Controller, PASSWORD_LIMIT, Pending, Settings, Verdict, judge};
 
 #[derive(Clone, Debug)]
 pub struct Coverage {
@@ -22,6 +23,7 @@ pub struct Coverage {
     pub swallowed: usize,
     pub overridden: usize,
     pub overlays: usize,
+    pub mouse: MouseCoverage,
 }
 
 impl Coverage {
@@ -43,6 +45,7 @@ impl Coverage {
             swallowed: 0,
             overridden: 0,
             overlays: 0,
+            mouse: MouseCoverage::default(),
         }
     }
 
@@ -58,12 +61,13 @@ impl Coverage {
             kind::WRITE_DATA => self.note_data(before, event, after),
             kind::WRITE_COMMAND => self.note_command(before, event, after),
             kind::KEYBOARD_FRAME => self.note_keyboard(before, event, after),
-            _ => {}
+            _ => self.mouse.note(before, event),
         }
     }
 
-    /// Fails unless all of it was reached often enough for so many events.
-    pub fn assert_reached(&self) {
+    /// Fails unless all of it was reached, under the given settings, often
+    /// enough for so many events.
+    pub fn assert_reached(&self, settings: Settings) {
         println!("{self:?}");
         let often = |count: usize, per_million: usize, what: &str| {
             let wanted = per_million * self.events / 1_000_000;
@@ -89,6 +93,9 @@ impl Coverage {
         often(self.swallowed, 50, "keys swallowed while locked");
         often(self.overridden, 50, "inhibit overridden");
         often(self.overlays, 500, "overlays");
+        for (count, situation) in self.mouse.reached(settings) {
+            often(count, 10, &situation);
+        }
     }
 
     fn note_data(&mut self, before: &Controller, event: Event, after: &Controller) {
@@ -111,8 +118,8 @@ impl Coverage {
     }
 
     fn note_keyboard(&mut self, before: &Controller, event: Event, after: &Controller) {
-        let low_switch = before.pins & 0x80 == 0;
-        self.overridden += usize::from(low_switch && !before.inhibited() && after.full);
+        let overridden = before.key_turned() && !before.inhibited();
+        self.overridden += usize::from(overridden && after.full);
         let Verdict::Sound(byte) = judge(event.value) else {
             self.resets_by_damage += usize::from(before.position > 0);
             return;

@@ -22,7 +22,7 @@ fn drawn<const N: usize>(random: &mut Random) -> [u8; N] {
 }
 
 impl Fenced {
-    /// Sixty random bytes between two margins of random bytes.
+    /// Random bytes for a state between two margins of random bytes.
     pub fn new(random: &mut Random) -> Fenced {
         let bytes = drawn(random);
         Fenced::around(random, bytes)
@@ -52,7 +52,7 @@ impl Fenced {
         self.memory.state.bytes()
     }
 
-    /// Checks the sixty bytes, and that those around them are as they were.
+    /// Checks the state's bytes, and that those around them are as they were.
     pub fn assert_bytes(&self, expected: &[u8; STATE_SIZE], what: &str) {
         assert_eq!(self.bytes(), *expected, "state after {what}");
         let margins = [self.memory.before, self.memory.after];

@@ -1,7 +1,7 @@
 //! Images that keep the body rules, drawn at random, and ways to mend sums.
 
 use crate::random::Random;
-use model::{BODY_SIZE, Controller, Device, IMAGE_SIZE, Password, Pending, mode, save};
+use model::{BODY_SIZE, Controller, Device, IMAGE_SIZE, Password, Pending, Settings, mode, save};
 
 /// Writes the sum that the body of an image asks for.
 pub fn mend(image: &mut [u8]) {
@@ -51,12 +51,13 @@ fn maybe_lock(state: &mut Controller, random: &mut Random) {
 }
 
 /// Any state that keeps the body rules, reachable by events or not.
-pub fn state(random: &mut Random) -> Controller {
+pub fn state(random: &mut Random, settings: Settings) -> Controller {
     let full = random.chance(50);
     let mut ram = [0; 32];
     ram.copy_from_slice(&random.bytes(32));
     ram[0] &= 0x7F;
     let mut state = Controller {
+        settings,
         output: random.byte(),
         full,
         source: if full {
@@ -93,5 +94,5 @@ pub fn behind(random: &mut Random, image: &[u8; IMAGE_SIZE]) -> Vec<u8> {
 
 /// A random sound image.
 pub fn image(random: &mut Random) -> [u8; IMAGE_SIZE] {
-    save(&state(random))
+    save(&state(random, Settings::ORDINARY))
 }

@@ -1,11 +1,11 @@
 //! Pairs of lists that differ in secrets only.
 
-use crate::event::Event;
+use crate::event::{Event, kind};
 use crate::keys;
 use crate::premise::{is_code_byte, is_plain_key, opens};
 use crate::random::Random;
 use crate::walker::Walker;
-use model::{Controller, Pending, Verdict, judge};
+use model::{Controller, Pending, Settings, Verdict, judge};
 
 /// How much of what matters a number of pairs has reached.
 #[derive(Clone, Debug, Default)]
@@ -23,6 +23,8 @@ pub struct PairCoverage {
     pub reopened_apart: usize,
     /// Pairs in which two different keys were refused.
     pub refused_apart: usize,
+    /// Pairs in which a mouse frame came with the key switch turned.
+    pub key_turned: usize,
 }
 
 /// What has happened so far in the pair being built.
@@ -33,6 +35,7 @@ struct Seen {
     wrong: bool,
     opened: usize,
     refused: bool,
+    key_turned: bool,
 }
 
 pub struct Pair {
@@ -48,13 +51,13 @@ struct Builder {
     seen: Seen,
 }
 
-/// Builds a pair of at most `length` events.
-pub fn build(seed: u64, length: usize, coverage: &mut PairCoverage) -> Pair {
+/// Builds a pair of at most `length` events, both under the same settings.
+pub fn build(settings: Settings, seed: u64, length: usize, coverage: &mut PairCoverage) -> Pair {
     let mut builder = Builder {
         walker: Walker::new(seed),
         random: Random::new(!seed),
-        first: Controller::fresh(),
-        second: Controller::fresh(),
+        first: Controller::fresh(settings),
+        second: Controller::fresh(settings),
         seen: Seen::default(),
     };
     let mut pair = Pair {
@@ -82,6 +85,7 @@ impl Seen {
         coverage.opened_apart += usize::from(self.opened > 0);
         coverage.reopened_apart += usize::from(self.opened > 1);
         coverage.refused_apart += usize::from(self.refused);
+        coverage.key_turned += usize::from(self.key_turned);
     }
 }
 
@@ -159,6 +163,8 @@ impl Builder {
         self.seen.progressed |= first.position != second.position;
         self.seen.opened += usize::from(opened && codes_differ);
         self.seen.refused |= keys_differ && refused;
+        let mouse_frame = one.kind == kind::MOUSE_FRAME && !refused;
+        self.seen.key_turned |= mouse_frame && self.first.key_turned();
     }
 
     /// One of the locks cannot open, so neither may.

@@ -1,7 +1,7 @@
 //! When two lists must be answered alike.
 
 use crate::event::{Event, kind};
-use model::{Controller, EVENT_SIZE, Pending, Verdict, judge};
+use model::{Controller, EVENT_SIZE, Pending, Settings, Verdict, judge};
 
 /// A nonzero byte written to port 60h.
 pub fn is_code_byte(event: Event) -> bool {
@@ -28,13 +28,14 @@ pub fn opens(state: &mut Controller, event: Event) -> bool {
     was_locked && !state.locked
 }
 
-/// True when the two lists differ only in secrets and open at the same places.
-pub fn comparable(first: &[u8], second: &[u8]) -> bool {
+/// True when the two lists, which share the settings, differ only in secrets
+/// and open at the same places.
+pub fn comparable(settings: Settings, first: &[u8], second: &[u8]) -> bool {
     if first.len() != second.len() {
         return false;
     }
-    let mut first_state = Controller::fresh();
-    let mut second_state = Controller::fresh();
+    let mut first_state = Controller::fresh(settings);
+    let mut second_state = Controller::fresh(settings);
     let places = first
         .chunks_exact(EVENT_SIZE)
         .zip(second.chunks_exact(EVENT_SIZE));
@@ -53,6 +54,8 @@ pub fn comparable(first: &[u8], second: &[u8]) -> bool {
 #[cfg(test)]
 mod tests {
     use super::*;
+    use crate::under_settings::{MOUSE_LOCK, ORDINARY};
+    use model::mode;
 
     /// Switches the keyboard on, loads two bytes, locks and types two keys.
     fn list(code: [u8; 2], keys: [u8; 2]) -> Vec<u8> {
@@ -71,27 +74,54 @@ mod tests {
         .collect()
     }
 
-    #[test]
-    fn secrets_may_differ_where_the_lock_opens_alike() {
+    fn secrets_may_differ_where_the_lock_opens_alike(settings: Settings) {
+        let pair = |one: &[u8], other: &[u8]| comparable(settings, one, other);
         let opened = list([0x1E, 0x30], [0x1C, 0x32]);
-        assert!(comparable(&opened, &list([0x30, 0x1E], [0x32, 0x1C])));
-        assert!(!comparable(&opened, &list([0x1E, 0x30], [0x1C, 0x1C])));
-        assert!(!comparable(&opened, &list([0x30, 0x30], [0x1C, 0x32])));
-        assert!(comparable(
-            &list([1, 2], [3, 4]),
-            &list([0xFF, 0x80], [0x7F, 1])
-        ));
+        assert!(pair(&opened, &list([0x30, 0x1E], [0x32, 0x1C])));
+        assert!(!pair(&opened, &list([0x1E, 0x30], [0x1C, 0x1C])));
+        assert!(!pair(&opened, &list([0x30, 0x30], [0x1C, 0x32])));
+        assert!(pair(&list([1, 2], [3, 4]), &list([0xFF, 0x80], [0x7F, 1])));
     }
 
-    #[test]
-    fn nothing_else_may_differ() {
+    fn nothing_else_may_differ(settings: Settings) {
+        let pair = |one: &[u8], other: &[u8]| comparable(settings, one, other);
         let base = list([0x11, 0x12], [0x01, 0x02]);
-        assert!(!comparable(&base, &list([0x11, 0x00], [0x01, 0x02])));
-        assert!(!comparable(&base, &list([0x11, 0x12], [0x01, 0xF0])));
-        assert!(!comparable(&base, &list([0x11, 0x12], [0x00, 0x02])));
-        assert!(!comparable(&base, &base[3..]));
+        assert!(!pair(&base, &list([0x11, 0x00], [0x01, 0x02])));
+        assert!(!pair(&base, &list([0x11, 0x12], [0x01, 0xF0])));
+        assert!(!pair(&base, &list([0x11, 0x12], [0x00, 0x02])));
+        assert!(!pair(&base, &base[3..]));
         let mut other_command = base.clone();
         other_command[1] = 0xA8;
-        assert!(!comparable(&base, &other_command));
+        assert!(!pair(&base, &other_command));
     }
+
+    /// A mouse byte that waits unread has the key refused. The mouse lock keeps
+    /// that byte back, so that the right key opens.
+    #[test]
+    fn the_settings_decide_whether_a_key_counts() {
+        let list = |key| -> Vec<u8> {
+            [
+                Event::command(0x60),
+                Event::data(mode::INHIBIT_OVERRIDE),
+                Event::pins(0x7F),
+                Event::mouse(0x14),
+                Event::command(0xA5),
+                Event::data(0x1E),
+                Event::data(0),
+                Event::command(0xA6),
+                Event::key(key),
+            ]
+            .iter()
+            .flat_map(|event| event.to_bytes())
+            .collect()
+        };
+        let (right, wrong) = (list(0x1C), list(0x32));
+        assert!(comparable(ORDINARY, &right, &wrong));
+        assert!(!comparable(MOUSE_LOCK, &right, &wrong));
+    }
+
+    crate::under_every_setting!(
+        secrets_may_differ_where_the_lock_opens_alike,
+        nothing_else_may_differ,
+    );
 }

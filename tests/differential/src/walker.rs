@@ -175,11 +175,19 @@ impl Walker {
                 kind::KEYBOARD_FRAME,
                 unguided::damaged_frame(&mut self.random),
             ),
+            75..=79 if state.mode(mode::MOUSE_OFF) => Event::command(0xA8),
             75..=84 => self.mouse_frame(),
             85..=89 => Event::data(self.random.byte()),
-            90..=92 => Event::pins(self.random.byte() | 0x80),
+            90..=92 => self.key_switch(),
             _ => self.anything(),
         }
+    }
+
+    /// Mostly turned back, so that keys get through.
+    fn key_switch(&mut self) -> Event {
+        let pins = self.random.byte();
+        let turned = self.random.chance(25);
+        Event::pins(if turned { pins & 0x7F } else { pins | 0x80 })
     }
 
     /// Locks, after switching the keyboard on so that the lock can open.

@@ -1,5 +1,5 @@
-//! Sixty bytes that no call made. What the answers are is open there, but
-//! every call ends, stays inside what it is lent, and fits with the others.
+//! The bytes of a state that no call made. What the answers are is open there,
+//! but every call ends, stays inside what it is lent, and fits with the others.
 
 use differential::event::Event;
 use differential::fenced::Fenced;

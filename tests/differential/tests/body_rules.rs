@@ -4,7 +4,7 @@ use differential::both;
 use differential::compare::{self, Room};
 use differential::images;
 use differential::random::Random;
-use model::{Controller, Device, IMAGE_SIZE, Password, Pending, save};
+use model::{Controller, Device, IMAGE_SIZE, Password, Pending, Settings, save};
 
 type Change = (&'static str, &'static [(usize, u8)]);
 
@@ -48,8 +48,12 @@ fn password(code: &[u8]) -> Password {
     password
 }
 
+fn fresh() -> Controller {
+    Controller::fresh(Settings::ORDINARY)
+}
+
 fn locked() -> Controller {
-    let mut state = Controller::fresh();
+    let mut state = fresh();
     state.password = password(&[0x1E, 0x30, 0x2E]);
     state.locked = true;
     state.position = 2;
@@ -59,7 +63,7 @@ fn locked() -> Controller {
 #[test]
 fn rules_of_an_open_controller() {
     assert_broken(
-        &Controller::fresh(),
+        &fresh(),
         &[
             ("flags bit 7", &[(1, 0x80)]),
             ("mouse source without a byte", &[(1, 0x02)]),
@@ -113,7 +117,7 @@ fn rules_of_a_locked_controller() {
 #[test]
 fn what_is_only_just_allowed() {
     assert_kept(
-        &Controller::fresh(),
+        &fresh(),
         &[
             ("all flags but the lock", &[(1, 0x3F)]),
             ("no latches", &[(3, 0)]),

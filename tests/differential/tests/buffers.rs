@@ -5,20 +5,19 @@ use differential::coverage::Coverage;
 use differential::images;
 use differential::lists;
 use differential::random::Random;
-use model::IMAGE_SIZE;
+use model::{IMAGE_SIZE, Settings};
 
 /// Exactly 7,000 events that follow the machine, noise at the end if needed.
-fn full_list(random: &mut Random) -> Vec<u8> {
-    let mut list = lists::guided(71, 7_000, &mut Coverage::new());
+fn full_list(random: &mut Random, settings: Settings) -> Vec<u8> {
+    let mut list = lists::guided(settings, 71, 7_000, &mut Coverage::new());
     let missing = 7_001 - list.len() / 3;
     list.extend(lists::unguided(random, missing));
     list
 }
 
-#[test]
-fn lengths_around_the_largest_list() {
+fn lengths_around_the_largest_list(settings: Settings) {
     let mut random = Random::new(41);
-    let list = full_list(&mut random);
+    let list = full_list(&mut random, settings);
     assert_eq!(list.len(), 21_003);
     let cases = [
         (20_997, 0),
@@ -31,45 +30,51 @@ fn lengths_around_the_largest_list() {
     ];
     for (length, refusal) in cases {
         for room in [63_000, 63_001, 63_009, 70_000] {
-            let written = compare::run(&mut random, &list[..length], room);
+            let written = compare::run(&mut random, settings, &list[..length], room);
             assert_eq!(written.refusal, refusal, "list of {length} bytes");
         }
     }
 }
 
-#[test]
-fn lengths_far_past_the_largest_list() {
+fn lengths_far_past_the_largest_list(settings: Settings) {
     let mut random = Random::new(42);
     for length in [21_006, 42_000, 65_535, 65_536, 65_537, 86_536, 200_001] {
         let list = random.bytes(length);
-        assert_eq!(compare::run(&mut random, &list, 10).refusal, 7);
-        assert_eq!(compare::run(&mut random, &list, length * 3).refusal, 7);
+        for room in [10, length * 3] {
+            let written = compare::run(&mut random, settings, &list, room);
+            assert_eq!(written.refusal, 7, "list of {length} bytes");
+        }
     }
 }
 
-#[test]
-fn answers_one_short_exact_and_longer() {
+fn answers_one_short_exact_and_longer(settings: Settings) {
     let mut random = Random::new(43);
-    let list = full_list(&mut random);
+    let list = full_list(&mut random, settings);
     for events in [0_usize, 1, 2, 3, 10, 28, 29, 255, 256, 6_999, 7_000] {
         let exact = events * 9;
         for room in exact.saturating_sub(10)..=exact + 10 {
-            let written = compare::run(&mut random, &list[..events * 3], room);
+            let written = compare::run(&mut random, settings, &list[..events * 3], room);
             assert_eq!(written.refusal, if room < exact { 8 } else { 0 });
         }
     }
 }
 
-#[test]
-fn every_short_list_with_every_small_buffer() {
+fn every_short_list_with_every_small_buffer(settings: Settings) {
     let mut random = Random::new(44);
     for length in 0..=13 {
         for room in 0..=40 {
             let list = lists::unguided(&mut random, 5);
-            compare::run(&mut random, &list[..length], room);
+            compare::run(&mut random, settings, &list[..length], room);
         }
     }
 }
+
+differential::under_every_setting!(
+    lengths_around_the_largest_list,
+    lengths_far_past_the_largest_list,
+    answers_one_short_exact_and_longer,
+    every_short_list_with_every_small_buffer,
+);
 
 #[test]
 fn saves_of_every_size() {

@@ -5,7 +5,7 @@ use differential::compare::{self, Room};
 use differential::images;
 use differential::random::Random;
 use differential::rounds::rounds;
-use model::{BODY_SIZE, Controller, IMAGE_SIZE, save};
+use model::{BODY_SIZE, Controller, IMAGE_SIZE, Settings, save};
 
 /// Reads, a command and a key: enough to show what was loaded.
 const LIST: [u8; 15] = [2, 0, 0, 0, 0, 0, 3, 0x20, 0, 0, 0, 0, 4, 0x38, 0x06];
@@ -105,7 +105,7 @@ fn wrong_trailers() {
         assert_eq!(refusal, if distance == 60 { 0 } else { 10 });
     }
     for swapped in [(60, 61), (62, 63), (65, 66), (66, 67), (64, 65)] {
-        let mut state = Controller::fresh();
+        let mut state = Controller::fresh(Settings::ORDINARY);
         state.ram[1] = 7;
         let mut image = save(&state);
         image.swap(swapped.0, swapped.1);

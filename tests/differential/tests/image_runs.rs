@@ -1,4 +1,5 @@
-//! Runs that go from image to image.
+//! Runs that go from image to image. An image has no place for the start
+//! settings, so all of them are under the ordinary ones.
 
 use differential::compare::{self, Room};
 use differential::coverage::Coverage;
@@ -6,15 +7,15 @@ use differential::images;
 use differential::lists;
 use differential::random::Random;
 use differential::rounds::rounds;
-use model::{Controller, EVENT_SIZE, IMAGE_SIZE, save};
+use model::{Controller, EVENT_SIZE, IMAGE_SIZE, Settings, save};
 
 const SPLIT_LISTS: usize = 600;
 const DRAWN_IMAGES: usize = 6_000;
 
 fn fresh_image() -> [u8; IMAGE_SIZE] {
     let mut image = [0; IMAGE_SIZE];
-    assert_eq!(panel::State::fresh().save(&mut image), 0);
-    assert_eq!(image, save(&Controller::fresh()));
+    assert_eq!(panel::State::fresh(panel::ORDINARY).save(&mut image), 0);
+    assert_eq!(image, save(&Controller::fresh(Settings::ORDINARY)));
     image
 }
 
@@ -45,9 +46,9 @@ fn a_list_in_pieces_is_answered_as_a_whole() {
     let mut coverage = Coverage::new();
     for seed in 0..(SPLIT_LISTS * rounds()) as u64 {
         let length = random.pick(&[5, 60, 600, 600, 2_000]);
-        let mut state = Controller::fresh();
+        let mut state = Controller::fresh(Settings::ORDINARY);
         let list = lists::guided_from(&mut state, 50_000 + seed, length, &mut coverage);
-        let whole = compare::run(&mut random, &list, list.len() * 3);
+        let whole = compare::run(&mut random, Settings::ORDINARY, &list, list.len() * 3);
         let (answers, image) = run_in_pieces(&mut random, &list);
         assert!(answers == whole.answers, "pieces of list {seed}");
         assert_eq!(image, save(&state), "last image of list {seed}");
@@ -61,7 +62,7 @@ fn lists_from_drawn_images() {
     let mut random = Random::new(12);
     let mut coverage = Coverage::new();
     for seed in 0..(DRAWN_IMAGES * rounds()) as u64 {
-        let mut state = images::state(&mut random);
+        let mut state = images::state(&mut random, Settings::ORDINARY);
         let bytes = images::behind(&mut random, &save(&state));
         let length = random.below(40);
         let list = lists::guided_from(&mut state, 90_000 + seed, length, &mut coverage);

@@ -7,50 +7,59 @@ use differential::images;
 use differential::lists;
 use differential::random::Random;
 use differential::rounds::rounds;
+use differential::under_settings::seed;
 use differential::walks::walk;
-use model::{Controller, Device, EVENT_SIZE, IMAGE_SIZE, mode};
+use model::{Controller, Device, EVENT_SIZE, IMAGE_SIZE, Settings, mode};
 
 const WALKED_EVENTS: usize = 1_500_000;
 const DRAWN_STATES: usize = 6_000;
 const LISTS: usize = 400;
 
-#[test]
-fn walks_from_fresh() {
+fn walks_from_fresh(settings: Settings) {
     let mut coverage = Coverage::new();
-    let mut random = Random::new(61);
-    let mut seed = 200_000;
+    let mut random = Random::new(seed(settings, 61));
+    let mut number = seed(settings, 200_000);
     while coverage.events < WALKED_EVENTS * rounds() {
         let length = lists::choose_length(&mut random);
-        let mut both = Both::started(&mut random);
+        let mut both = Both::started(&mut random, settings);
         both.look(&mut random);
-        walk(&mut both, seed, length, &mut coverage);
-        seed += 1;
+        walk(&mut both, number, length, &mut coverage);
+        number += 1;
     }
-    coverage.assert_reached();
+    coverage.assert_reached(settings);
 }
 
 /// States that no events from fresh may reach, but that keep the body rules.
-#[test]
-fn walks_from_drawn_images() {
+fn walks_from_drawn_states(settings: Settings) {
     let mut coverage = Coverage::new();
-    let mut random = Random::new(62);
-    for seed in 0..(DRAWN_STATES * rounds()) as u64 {
-        let state = images::state(&mut random);
+    let mut random = Random::new(seed(settings, 62));
+    for number in 0..(DRAWN_STATES * rounds()) as u64 {
+        let state = images::state(&mut random, settings);
         let mut both = Both::of(&mut random, &state);
         both.look(&mut random);
         let length = random.below(40);
-        walk(&mut both, 300_000 + seed, length, &mut coverage);
+        walk(
+            &mut both,
+            seed(settings, 300_000 + number),
+            length,
+            &mut coverage,
+        );
     }
     assert!(coverage.opens > 200 && coverage.locks > 200);
 }
 
-/// Fresh, both devices on, a full buffer, sending to each device, locked.
-fn standing_states(random: &mut Random) -> Vec<Controller> {
-    let mut on = Controller::fresh();
+/// Fresh, a full buffer, the key switch turned with its inhibit overridden or
+/// not, sending to each device, both devices on, locked.
+fn standing_states(random: &mut Random, settings: Settings) -> Vec<Controller> {
+    let mut on = Controller::fresh(settings);
     on.clear_mode(mode::KEYBOARD_OFF | mode::MOUSE_OFF);
     let mut full = on.clone();
     full.put(0x1E, Device::Mouse);
-    let mut states = vec![Controller::fresh(), full];
+    let mut turned = on.clone();
+    turned.pins = 0x7F;
+    let mut overridden = turned.clone();
+    overridden.set_mode(mode::INHIBIT_OVERRIDE);
+    let mut states = vec![Controller::fresh(settings), full, turned, overridden];
     for device in [Device::Keyboard, Device::Mouse] {
         let mut sending = on.clone();
         sending.sending = Some((device, 0xED));
@@ -60,15 +69,14 @@ fn standing_states(random: &mut Random) -> Vec<Controller> {
     locked.password.push(0x1E);
     locked.locked = true;
     states.extend([on, locked]);
-    states.extend((0..6).map(|_| images::state(random)));
+    states.extend((0..6).map(|_| images::state(random, settings)));
     states
 }
 
-#[test]
-fn every_event_in_some_states() {
-    let mut random = Random::new(63);
+fn every_event_in_some_states(settings: Settings) {
+    let mut random = Random::new(seed(settings, 63));
     let mut refusals = [0; 7];
-    for state in standing_states(&mut random) {
+    for state in standing_states(&mut random, settings) {
         for kind in 0..=10 {
             for value in 0..0x880 {
                 let mut both = Both::of(&mut random, &state);
@@ -82,11 +90,10 @@ fn every_event_in_some_states() {
 }
 
 /// Every kind near the ones that there are, with every value.
-#[test]
-fn every_event_asked_about() {
-    let mut random = Random::new(64);
+fn every_event_asked_about(settings: Settings) {
+    let mut random = Random::new(seed(settings, 64));
     let mut refusals = [0; 7];
-    for state in standing_states(&mut random) {
+    for state in standing_states(&mut random, settings) {
         let both = Both::of(&mut random, &state);
         for kind in (0..=10).chain([16, 128, 255]) {
             for value in 0..=u16::MAX {
@@ -114,29 +121,28 @@ fn run_in_pieces(both: &mut Both, random: &mut Random, list: &[u8]) {
     }
 }
 
-#[test]
-fn lists_go_on_from_the_state() {
-    let mut random = Random::new(65);
+fn lists_go_on_from_the_state(settings: Settings) {
+    let mut random = Random::new(seed(settings, 65));
     let mut coverage = Coverage::new();
-    for seed in 0..(LISTS * rounds()) as u64 {
-        let start = match seed % 2 {
-            0 => Controller::fresh(),
-            _ => images::state(&mut random),
+    for number in 0..(LISTS * rounds()) as u64 {
+        let start = match number % 2 {
+            0 => Controller::fresh(settings),
+            _ => images::state(&mut random, settings),
         };
         let mut both = Both::of(&mut random, &start);
         let mut end = start;
-        let list = lists::guided_from(&mut end, 400_000 + seed, 1_000, &mut coverage);
+        let seed = seed(settings, 400_000 + number);
+        let list = lists::guided_from(&mut end, seed, 1_000, &mut coverage);
         run_in_pieces(&mut both, &mut random, &list);
         assert_eq!(both.model, end);
     }
     assert!(coverage.locks > 200 && coverage.opens > 200);
 }
 
-#[test]
-fn refused_lists_leave_the_state() {
-    let mut random = Random::new(66);
+fn refused_lists_leave_the_state(settings: Settings) {
+    let mut random = Random::new(seed(settings, 66));
     for length in (0..=13).chain([20_997, 20_999, 21_000, 21_001, 21_003, 65_536, 65_538]) {
-        let state = images::state(&mut random);
+        let state = images::state(&mut random, settings);
         let list = lists::unguided(&mut random, length / EVENT_SIZE + 1);
         let exact = length / EVENT_SIZE * 9;
         for room in [0, exact.saturating_sub(1), exact, exact + 9] {
@@ -152,26 +158,26 @@ fn refused_lists_leave_the_state() {
     }
 }
 
-#[test]
-fn what_is_saved_begins_with_the_state_and_is_loaded_again() {
-    let mut random = Random::new(67);
+/// All but the options, which a load makes the ordinary ones.
+fn what_is_saved_begins_with_the_body_and_is_loaded_again(settings: Settings) {
+    let mut random = Random::new(seed(settings, 67));
     for _ in 0..DRAWN_STATES * rounds() {
-        let state = images::state(&mut random);
+        let state = images::state(&mut random, settings);
         let both = Both::of(&mut random, &state);
         let room = IMAGE_SIZE + random.pick(&[0, 0, 1, 32]);
         let saved = both.save(&mut random, room);
-        assert_eq!(saved[..60], both.bytes());
-        let mut other = Both::of(&mut random, &Controller::fresh());
+        assert_eq!(saved[..60], both.bytes()[..60]);
+        let mut other = Both::started(&mut random, settings);
         assert_eq!(other.load(&saved), 0);
-        assert_eq!(other.bytes(), both.bytes());
+        assert_eq!(other.bytes()[..60], both.bytes()[..60]);
+        assert_eq!(other.bytes()[60], panel::ORDINARY);
     }
 }
 
-#[test]
-fn saves_of_every_size() {
-    let mut random = Random::new(68);
+fn saves_of_every_size(settings: Settings) {
+    let mut random = Random::new(seed(settings, 68));
     for room in (0..=100).chain([255, 256, 1_000]) {
-        let state = images::state(&mut random);
+        let state = images::state(&mut random, settings);
         let both = Both::of(&mut random, &state);
         let written = both.save(&mut random, room).len();
         assert_eq!(written, if room < IMAGE_SIZE { 0 } else { IMAGE_SIZE });
@@ -184,8 +190,8 @@ const CODE: [u8; 16] = [
 ];
 
 /// A controller with the first bytes of the code loaded, the load ended or not.
-fn with_code(random: &mut Random, length: usize, ended: bool) -> Both {
-    let mut both = Both::started(random);
+fn with_code(random: &mut Random, settings: Settings, length: usize, ended: bool) -> Both {
+    let mut both = Both::started(random, settings);
     both.event(random, Event::command(0xA5));
     for &byte in &CODE[..length] {
         both.event(random, Event::data(byte));
@@ -203,27 +209,38 @@ fn assert_no_code(both: &Both, how: &str) {
     assert!(bytes.iter().all(|byte| !CODE.contains(byte)), "{how}");
 }
 
-#[test]
-fn a_dropped_code_leaves_zeros() {
-    let mut random = Random::new(69);
+fn a_dropped_code_leaves_zeros(settings: Settings) {
+    let mut random = Random::new(seed(settings, 69));
     for length in 1..=16 {
-        let mut both = with_code(&mut random, length, true);
+        let mut both = with_code(&mut random, settings, length, true);
         both.event(&mut random, Event::command(0xA5));
         assert_no_code(&both, "a new load");
         for command in [0x00, 0x20, 0xA4, 0xA5, 0xA6, 0xAA, 0xFF] {
-            let mut both = with_code(&mut random, length, false);
+            let mut both = with_code(&mut random, settings, length, false);
             both.event(&mut random, Event::command(command));
             assert_no_code(&both, "a load cut short");
         }
-        let mut both = with_code(&mut random, length, true);
-        assert_eq!(both.load(&model::save(&Controller::fresh())), 0);
+        let mut both = with_code(&mut random, settings, length, true);
+        assert_eq!(both.load(&model::save(&Controller::fresh(settings))), 0);
         assert_no_code(&both, "another state loaded");
-        let mut both = with_code(&mut random, length, true);
+        let mut both = with_code(&mut random, settings, length, true);
         let list = [kind::WRITE_COMMAND, 0xA5, 0];
         assert_eq!(both.run(&mut random, &list, 9), 0);
         assert_no_code(&both, "a new load in a list");
     }
-    let mut both = with_code(&mut random, 16, false);
+    let mut both = with_code(&mut random, settings, 16, false);
     both.event(&mut random, Event::data(0x92));
     assert_no_code(&both, "a seventeenth byte");
 }
+
+differential::under_every_setting!(
+    walks_from_fresh,
+    walks_from_drawn_states,
+    every_event_in_some_states,
+    every_event_asked_about,
+    lists_go_on_from_the_state,
+    refused_lists_leave_the_state,
+    what_is_saved_begins_with_the_body_and_is_loaded_again,
+    saves_of_every_size,
+    a_dropped_code_leaves_zeros,
+);

@@ -2,6 +2,7 @@
 
 use crate::controller::{Controller, Device, Pending};
 use crate::password::{PASSWORD_LIMIT, Password};
+use crate::settings::Settings;
 
 pub const BODY_SIZE: usize = 60;
 
@@ -76,7 +77,7 @@ fn pending_from(code: u8, number: u8) -> Pending {
     }
 }
 
-/// The body that describes a state.
+/// The body that describes a state, its settings apart.
 pub fn encode(state: &Controller) -> [u8; BODY_SIZE] {
     let mut body = [0; BODY_SIZE];
     body[at::OUTPUT] = state.output;
@@ -107,12 +108,14 @@ fn password(body: &[u8; BODY_SIZE]) -> Password {
     password
 }
 
-/// Reads a body that keeps the body rules.
+/// Reads a body that keeps the body rules. It has no place for the settings,
+/// so they are the ordinary ones.
 pub(crate) fn decode(body: &[u8; BODY_SIZE]) -> Controller {
     let has = |bit: u8| body[at::FLAGS] & bit != 0;
     let mut ram = [0; 32];
     ram.copy_from_slice(&body[at::RAM..]);
     Controller {
+        settings: Settings::ORDINARY,
         output: body[at::OUTPUT],
         full: has(flag::FULL),
         source: if has(flag::MOUSE_SOURCE) {

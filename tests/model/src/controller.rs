@@ -1,6 +1,7 @@
 //! The controller's state and the few changes that many rules share.
 
 use crate::password::Password;
+use crate::settings::Settings;
 
 #[derive(Clone, Copy, Debug, PartialEq, Eq)]
 pub enum Device {
@@ -33,6 +34,9 @@ pub mod mode {
     pub const UNUSED: u8 = 1 << 7;
 }
 
+/// The pin of P1 that the key switch is on.
+const KEY_SWITCH: u8 = 1 << 7;
+
 /// RAM cells with a meaning of their own.
 pub mod cell {
     pub const MODE: usize = 0x00;
@@ -43,6 +47,7 @@ pub mod cell {
 
 #[derive(Clone, Debug, PartialEq, Eq)]
 pub struct Controller {
+    pub settings: Settings,
     pub output: u8,
     pub full: bool,
     pub source: Device,
@@ -63,10 +68,11 @@ pub struct Controller {
 }
 
 impl Controller {
-    pub fn fresh() -> Controller {
+    pub fn fresh(settings: Settings) -> Controller {
         let mut ram = [0; 32];
         ram[cell::MODE] = mode::TRANSLATE | mode::MOUSE_OFF | mode::KEYBOARD_OFF;
         Controller {
+            settings,
             output: 0,
             full: false,
             source: Device::Keyboard,
@@ -99,9 +105,19 @@ impl Controller {
         self.ram[cell::MODE] &= !bits;
     }
 
-    /// The key switch is closed and the mode does not override it.
+    /// The key switch is turned to its locking side, where its pin is low.
+    pub fn key_turned(&self) -> bool {
+        self.pins & KEY_SWITCH == 0
+    }
+
+    /// The key switch is turned and the mode does not override it.
     pub fn inhibited(&self) -> bool {
-        self.pins & 0x80 == 0 && !self.mode(mode::INHIBIT_OVERRIDE)
+        self.key_turned() && !self.mode(mode::INHIBIT_OVERRIDE)
+    }
+
+    /// The key switch keeps the mouse from the host, whatever the mode.
+    pub fn mouse_inhibited(&self) -> bool {
+        self.settings.mouse_lock && self.key_turned()
     }
 
     /// Fills the output buffer; an unread byte is lost.

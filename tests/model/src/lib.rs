@@ -17,6 +17,8 @@ mod lock;
 mod password;
 mod receive;
 mod refusal;
+mod settings;
+mod state_bytes;
 mod stored_run;
 mod translation;
 
@@ -27,5 +29,7 @@ pub use frame::{Verdict, frame, judge};
 pub use image::{IMAGE_SIZE, find, load, save, store, word_sum};
 pub use list::{ANSWER_SIZE, EVENT_SIZE, LIST_LIMIT, list_refusal, run};
 pub use password::{PASSWORD_LIMIT, Password};
+pub use settings::Settings;
+pub use state_bytes::{STATE_SIZE, state_bytes};
 pub use stored_run::run_image;
 pub use translation::{entry, translate};

@@ -29,7 +29,7 @@ impl Controller {
         let high = match self.overlay {
             Some(nibble) => nibble << 4,
             None => {
-                bit(self.pins & 0x80 != 0, 4)
+                bit(!self.key_turned(), 4)
                     | bit(self.full_from(Device::Mouse), 5)
                     | bit(self.timeout_error, 6)
                     | bit(self.parity_error, 7)

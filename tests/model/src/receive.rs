@@ -61,7 +61,7 @@ impl Controller {
 
     pub(crate) fn mouse_frame(&mut self, frame: u16) {
         let byte = self.check_frame(frame).unwrap_or(DAMAGED);
-        if !self.locked {
+        if !self.locked && !self.mouse_inhibited() {
             self.put(byte, Device::Mouse);
         }
     }

@@ -3,7 +3,7 @@
 mod host;
 
 use host::Host;
-use model::{Controller, IMAGE_SIZE, encode, find, load, run_image, save, store};
+use model::{Controller, IMAGE_SIZE, Settings, encode, find, load, run_image, save, store};
 
 /// A state in which most parts differ from fresh.
 fn busy() -> Controller {
@@ -26,7 +26,7 @@ fn mend(image: &mut [u8; IMAGE_SIZE]) {
 #[test]
 fn fresh_bytes() {
     let mut saved = [0xA5; 70];
-    let fresh = Controller::fresh();
+    let fresh = Controller::fresh(Settings::ORDINARY);
     assert_eq!(store(&fresh, &mut saved[..67]), 9);
     assert_eq!(saved, [0xA5; 70]);
     assert_eq!(store(&fresh, &mut saved), 0);
@@ -44,7 +44,7 @@ fn fresh_bytes() {
 #[test]
 fn load_undoes_save() {
     let locked = Host::locked_with(&[0x1E, 0x30]).state;
-    for state in [Controller::fresh(), busy(), locked] {
+    for state in [Controller::fresh(Settings::ORDINARY), busy(), locked] {
         assert_eq!(load(&save(&state)), Ok(state));
     }
 }
@@ -73,7 +73,7 @@ fn any_trailer_change_is_refused() {
 
 #[test]
 fn sum_wraps_and_covers_the_last_word() {
-    let mut state = Controller::fresh();
+    let mut state = Controller::fresh(Settings::ORDINARY);
     state.ram[1..].fill(0xFF);
     let image = save(&state);
     assert_eq!(load(&image), Ok(state));
@@ -84,7 +84,7 @@ fn sum_wraps_and_covers_the_last_word() {
 
 #[test]
 fn broken_body_rule_is_refused_after_the_sum() {
-    let mut image = save(&Controller::fresh());
+    let mut image = save(&Controller::fresh(Settings::ORDINARY));
     image[28] |= 0x80;
     assert_eq!(load(&image), Err(10));
     mend(&mut image);
@@ -93,7 +93,7 @@ fn broken_body_rule_is_refused_after_the_sum() {
 
 #[test]
 fn checks_come_in_order() {
-    let good = save(&Controller::fresh());
+    let good = save(&Controller::fresh(Settings::ORDINARY));
     let mut unruly = good;
     unruly[3] = 4;
     mend(&mut unruly);

@@ -3,11 +3,11 @@
 mod host;
 
 use host::Host;
-use model::{Controller, frame};
+use model::frame;
 
 #[test]
 fn lines_of_a_fresh_controller() {
-    let fresh = Controller::fresh();
+    let fresh = Host::fresh().state;
     assert_eq!(fresh.lines(), [0, 0, 0, 0x10, 0x4B, 0, 0, 0, 0]);
     assert_eq!(fresh.sent_byte(), 0);
 }

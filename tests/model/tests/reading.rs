@@ -3,13 +3,13 @@
 mod host;
 
 use host::Host;
-use model::{Device, mode, run};
+use model::{Device, Settings, mode, run};
 
 #[test]
 fn printed_case() {
     let list = [0x03, 0xAA, 0, 2, 0, 0, 0, 0, 0, 0, 0, 0];
     let mut answers = [0; 36];
-    assert_eq!(run(&list, &mut answers), 0);
+    assert_eq!(run(Settings::ORDINARY, &list, &mut answers), 0);
     let expected = [
         [0x00, 0x00, 0x00, 0x1D, 0x03, 0, 0, 0, 0],
         [0x00, 0x1D, 0x00, 0x1D, 0x03, 0, 0, 0, 0],

@@ -5,15 +5,20 @@ mod state;
 
 pub use state::{ANSWER_SIZE, Answer, STATE_SIZE, State};
 
+/// Options of a start: none of them, and the mouse lock.
+pub const ORDINARY: u8 = 0;
+pub const MOUSE_LOCK: u8 = 1;
+
 /// What `judge` answers for a frame that is not sound.
 pub const WRONG_PARITY: u16 = 256;
 pub const BROKEN: u16 = 257;
 
 /// Runs a list from fresh and hands back the refusal number.
-pub fn run(list: &[u8], answers: &mut [u8]) -> u8 {
+pub fn run(options: u8, list: &[u8], answers: &mut [u8]) -> u8 {
     // SAFETY: each pointer comes with the length of its own slice.
     unsafe {
         ffi::calugnid_run(
+            options,
             list.as_ptr(),
             list.len(),
             answers.as_mut_ptr(),

@@ -3,12 +3,13 @@
 use crate::ffi;
 use std::cell::UnsafeCell;
 
-pub const STATE_SIZE: usize = 60;
+pub const STATE_SIZE: usize = 61;
 pub const ANSWER_SIZE: usize = 9;
 
 pub type Answer = [u8; ANSWER_SIZE];
 
-/// Sixty bytes that the library changes in place.
+/// The bytes that the library changes in place: an image's body, then the
+/// options.
 ///
 /// They stand in a cell, so that a call which writes where it is only to read
 /// is seen by whoever looks at the bytes afterwards.
@@ -17,13 +18,13 @@ pub struct State(UnsafeCell<[u8; STATE_SIZE]>);
 
 impl State {
     /// A fresh controller.
-    pub fn fresh() -> State {
+    pub fn fresh(options: u8) -> State {
         let mut state = State::from_bytes([0; STATE_SIZE]);
-        state.start();
+        state.start(options);
         state
     }
 
-    /// Any sixty bytes. Only `start` and `load` make a controller of them.
+    /// Any bytes. Only `start` and `load` make a controller of them.
     pub fn from_bytes(bytes: [u8; STATE_SIZE]) -> State {
         State(UnsafeCell::new(bytes))
     }
@@ -38,20 +39,20 @@ impl State {
     }
 
     /// Makes a fresh controller of whatever was there.
-    pub fn start(&mut self) {
-        // SAFETY: the pointer is to sixty bytes.
-        unsafe { ffi::calugnid_start(self.pointer()) }
+    pub fn start(&mut self, options: u8) {
+        // SAFETY: the pointer is to a whole state.
+        unsafe { ffi::calugnid_start(self.pointer(), options) }
     }
 
     /// Carries out one event and writes its answer.
     pub fn event(&mut self, kind: u8, value: u16, answer: &mut Answer) {
-        // SAFETY: the pointers are to sixty bytes and to nine.
+        // SAFETY: the pointers are to a whole state and to nine bytes.
         unsafe { ffi::calugnid_event(self.pointer(), kind, value, answer.as_mut_ptr()) }
     }
 
     /// Runs a list and hands back the refusal number.
     pub fn run(&mut self, list: &[u8], answers: &mut [u8]) -> u8 {
-        // SAFETY: the first pointer is to sixty bytes, the others come with
+        // SAFETY: the first pointer is to a whole state, the others come with
         // the lengths of their own slices.
         unsafe {
             ffi::calugnid_run_state(
@@ -80,7 +81,7 @@ impl State {
 
     /// Saves to the front of a buffer and hands back the refusal number.
     pub fn save(&self, saved: &mut [u8]) -> u8 {
-        // SAFETY: the first pointer is to sixty bytes, the other comes with
+        // SAFETY: the first pointer is to a whole state, the other comes with
         // the length of its slice.
         unsafe { ffi::calugnid_save(self.pointer(), saved.as_mut_ptr(), saved.len()) }
     }
@@ -94,19 +95,19 @@ impl State {
 
     /// Writes the answer that stands with no event.
     pub fn lines(&self, answer: &mut Answer) {
-        // SAFETY: the pointers are to sixty bytes and to nine.
+        // SAFETY: the pointers are to a whole state and to nine bytes.
         unsafe { ffi::calugnid_lines(self.pointer(), answer.as_mut_ptr()) }
     }
 
     /// The number that would refuse an event now, 0 for none.
     pub fn refusal(&self, kind: u8, value: u16) -> u8 {
-        // SAFETY: the pointer is to sixty bytes.
+        // SAFETY: the pointer is to a whole state.
         unsafe { ffi::calugnid_refusal(self.pointer(), kind, value) }
     }
 
     /// The byte being sent, 0 with nobody.
     pub fn sent_byte(&self) -> u8 {
-        // SAFETY: the pointer is to sixty bytes.
+        // SAFETY: the pointer is to a whole state.
         unsafe { ffi::calugnid_sent_byte(self.pointer()) }
     }
 }

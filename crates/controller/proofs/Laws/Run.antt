@@ -9,11 +9,12 @@ use borrow.Author.Tests.{leb-true}
 use Rattle.translation.proofs.Tests.{and-true}
 use lib.ListN.{length, set, take, drop, length-drop, length-append, length-take, drop-of-length-le, take-append-drop}
 use lib.Seq.{take-at, drop-at, drop-drop, take-append-add}
+use Rattle.machine.specs.Settings.{Settings}
 use Rattle.machine.specs.State.{Machine, fresh}
 use Rattle.machine.specs.Events.{Event, event, refusal, step, answer, standing}
 use Rattle.machine.specs.Run.{events, first, after, answers, filled, fitting, listRefusal}
 use Rattle.machine.specs.Kept.{Kept}
-use Rattle.machine.specs.View.{view, public, body}
+use Rattle.machine.specs.View.{view, public, stateOf}
 use Rattle.machine.specs.Changed.{Changed}
 use Rattle.machine.proofs.Laws.Events.{reply-refused, refusal-kind}
 use Rattle.machine.proofs.Laws.Kept.{keeps}
@@ -31,13 +32,13 @@ fitting-run : {s s′ list space space′ : List ℕ} → Changed (λ m. after m
 fitting-run {s} {s′} {list} {space} change buffer =
     record {
       machine = change .machine;
-      bytes = λ b. change .bytes b ∙ ap body (change .machine);
+      bytes = λ b. change .bytes b ∙ ap stateOf (change .machine);
       buffer = buffer;
       kept = λ k. subst Kept (sym (change .machine)) (after-kept (view s) (fitting list space) k);
     }
 
 run-change : {s s′ list space space′ : List ℕ} → FittingRun s list space s′ space′ → Changed (λ m. after m (fitting list space)) s s′
-run-change run = record { machine = run .machine; bytes = λ b. run .bytes b ∙ ap body (sym (run .machine)) }
+run-change run = record { machine = run .machine; bytes = λ b. run .bytes b ∙ ap stateOf (sym (run .machine)) }
 
 -- nothing fits
 run-none : {s list space : List ℕ} → fitting list space ≡ [] → FittingRun s list space s space
@@ -138,14 +139,15 @@ list-run {s} {list} {space} number none run =
       refusal = sym a;
       refused = λ stands. absurd (stands a);
       machine = λ _. run .machine ∙ ap (after (view s)) all;
-      bytes = λ _ b. run .bytes b ∙ ap (λ (es : List Event). body (after (view s) es)) all;
+      bytes = λ _ b. run .bytes b ∙ ap (λ (es : List Event). stateOf (after (view s) es)) all;
       buffer = λ _. run .buffer ∙ ap (λ (es : List Event). filled (view s) es space) all;
       kept = run .kept;
     }
 
 -- ---- FreshRun
-pub fresh-run : {s list space s′ space′ : List ℕ} {n : ℕ} → view s ≡ fresh → ListRun s list space n s′ space′ → FreshRun list space space′ n
-fresh-run {s} {list} {space} start run =
+pub fresh-run : {x : Settings} {s list space s′ space′ : List ℕ} {n : ℕ} → view s ≡ fresh x → ListRun s list space n s′ space′ →
+    FreshRun x list space space′ n
+fresh-run {x} {s} {list} {space} start run =
     record {
       refusal = run .refusal;
       refused = λ stands. run .refused stands .1;
@@ -231,7 +233,7 @@ one-answered {s} {s′} {answer₀} {reply} {kind} {low} {high} nine piece =
     let change : Changed (λ m. step m e) s s′ = by-rule (run-change (piece .run)) (ap (after (view s)) all) in
     record {
       stepped = change .machine;
-      bytes = λ b. change .bytes b ∙ ap body (change .machine);
+      bytes = λ b. change .bytes b ∙ ap stateOf (change .machine);
       answered =
           piece .run .buffer ∙ ap (λ (es : List Event). filled (view s) es answer₀) all
           ∙ ap₂ (λ (a b : List ℕ). a ++ b) (append-nil (answer (view s) e)) (drop-of-length-le answer₀ {i = 9} (omega arith)) ∙ append-nil (answer (view s) e);

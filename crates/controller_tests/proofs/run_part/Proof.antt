@@ -12,6 +12,9 @@ returns c = search needs
 returns-2 : tie.Need-returns-2
 returns-2 c = search needs
 
+ordinary-requires : tie.Need-ordinary-requires
+ordinary-requires c κs = search needs
+
 slice-aggregate-run-fresh : tie.Need-slice-aggregate-run-fresh
 slice-aggregate-run-fresh c = simp length-take (omega arith)
 
@@ -36,6 +39,7 @@ run-part-spec =
     (tie.spec
     returns
     returns-2
+    ordinary-requires
     slice-aggregate-run-fresh
     slice-relend-prefix-run-fresh
     slice-aggregate-run-fresh-2

@@ -1,18 +1,15 @@
--- Bytes copied over others, `lib.Seq`'s `paste`: over the first bytes, over all of them, and behind what was copied before.
+-- Bytes copied over others, `lib.Seq`'s `paste`: over the first bytes, and behind what was copied before.
 -- Assumes nothing.
 use mathlib.Core.Path.{_≡_, ap, sym, _∙_}
-use mathlib.Core.List.{List, _++_, append-nil}
-use Prim.Native.Nat.{ℕ, _+_, _≤_}
+use mathlib.Core.List.{List, _++_}
+use Prim.Native.Nat.{ℕ, _+_}
 use native.Mathlib.Nat.{zero-add}
-use lib.ListN.{length, drop, drop-of-length-le}
+use lib.ListN.{length, drop}
 use lib.Seq.{paste, take-length, take-at, drop-append-add, drop-drop}
 
 -- ---- paste
 pub paste-first : (d s : List ℕ) → paste d 0 s (length s) ≡ s ++ drop (length s) d
 paste-first d s = simp (take-length, zero-add)
-
-pub paste-whole : (d s : List ℕ) → length d ≤ length s → paste d 0 s (length s) ≡ s
-paste-whole d s h = paste-first d s ∙ ap (λ (r : List ℕ). s ++ r) (drop-of-length-le d h) ∙ append-nil s
 
 pub paste-next : (p d s : List ℕ) (n : ℕ) → length p ≡ n → paste (p ++ drop n d) n s (length s) ≡ p ++ s ++ drop (n + length s) d
 paste-next p d s n h =

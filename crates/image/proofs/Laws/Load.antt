@@ -7,11 +7,10 @@ use native.Mathlib.Omega.{arith}
 use lib.ListN.{length}
 use borrow.Author.Tests.{eq-eqb, ne-eqb, eqb-false}
 use Rattle.machine.specs.State.{Machine}
-use Rattle.machine.specs.View.{view}
 use Rattle.image.specs.Layout.{bodyLength, imageLength}
 use Rattle.image.specs.Find.{ends, found, bodyStart}
 use Rattle.image.specs.Rules.{bodyKept}
-use Rattle.image.specs.Load.{loadRefusal, loaded}
+use Rattle.image.specs.Load.{loadRefusal, resumed, loaded}
 use Rattle.translation.proofs.Tests.{split}
 use Rattle.image.proofs.Laws.Tests.{cond-true, cond-false}
 use Rattle.image.proofs.Laws.Find.{ends-sealed, found-none, found-body, length-bodyOf}
@@ -36,8 +35,8 @@ module _ (bytes : List ℕ) {b : List ℕ} (here : b ≡ found bytes) where
     pub some-ends : ends 1 bodyLength bytes ≡ true
     some-ends = split (ends 1 bodyLength bytes) (λ e. e) (λ e. absurd (some (ap length (here ∙ found-none bytes e))))
 
-    pub some-sixty : length b ≡ bodyLength
-    some-sixty = ap length here ∙ length-found bytes some-ends
+    pub some-long : length b ≡ bodyLength
+    some-long = ap length here ∙ length-found bytes some-ends
 
     pub some-room : imageLength ≤ length bytes
     some-room = ends-sealed 1 bodyLength bytes some-ends .room
@@ -53,7 +52,7 @@ module _ (m : Machine) (bytes : List ℕ) where
   unfolding loaded
   loaded-refused n e some = cond-false _ _ _ (ne-eqb (loadRefusal bytes) 0 (λ z. some (sym e ∙ z)))
 
-  pub loaded-accepted : loadRefusal bytes ≡ 0 → loaded m bytes ≡ view (found bytes)
+  pub loaded-accepted : loadRefusal bytes ≡ 0 → loaded m bytes ≡ resumed bytes
   unfolding loaded
   loaded-accepted e = cond-true _ _ _ (eq-eqb (loadRefusal bytes) 0 e)
 

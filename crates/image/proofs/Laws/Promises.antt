@@ -1,27 +1,31 @@
 -- The promised records of specs/Promises, for each way through the calls. Assumes nothing.
-use mathlib.Core.Path.{_≡_, refl, ap, sym, subst, _∙_}
+use mathlib.Core.Path.{_≡_, refl, ap, ap₂, sym, subst, _∙_}
 use mathlib.Core.Bool.{Bool, true, false, not}
 use mathlib.Core.List.{List, _++_}
 use Prim.Native.Nat.{ℕ, _≤_, _<_}
 use native.Mathlib.Omega.{arith}
-use lib.ListN.{length, take}
+use lib.ListN.{length, take, drop, length-take}
 use lib.Seq.{paste}
 use borrow.Author.Tests.{not-true, not-false}
-use Rattle.machine.specs.View.{stateLength, view, IsBody}
+use Rattle.machine.specs.Settings.{Settings, ordinary}
+use Rattle.machine.specs.State.{fresh}
+use Rattle.machine.specs.View.{stateLength, beyond, stateOf, view, IsState}
+use Rattle.machine.proofs.Laws.Kept.{fresh-kept}
+use Rattle.machine.proofs.Laws.Body.{drop-body, body-front}
 use Rattle.machine.proofs.Laws.Lists.{Below}
 use Rattle.image.specs.Layout.{bodyLength, imageLength, trailer, sealed, image}
 use Rattle.image.specs.Save.{savedBytes, written}
 use Rattle.image.specs.Find.{found}
 use Rattle.image.specs.Rules.{bodyKept}
-use Rattle.image.specs.Load.{loadRefusal}
+use Rattle.image.specs.Load.{loadRefusal, stateFrom}
 use Rattle.image.specs.Restored.{Restored}
 use Rattle.image.specs.Promises.{Saved, Loaded}
-use Rattle.image.proofs.Laws.Copy.{paste-whole}
+use Rattle.image.proofs.Laws.Copy.{paste-first}
 use Rattle.image.proofs.Laws.Layout.{sealed-written}
 use Rattle.image.proofs.Laws.Save.{saveRefusal-short, saveRefusal-room, written-short, written-room, take-written}
-use Rattle.image.proofs.Laws.Load.{none-ends, some-ends, some-sixty, loaded-refused}
+use Rattle.image.proofs.Laws.Load.{none-ends, some-ends, some-long, loaded-refused}
 use Rattle.image.proofs.Laws.Load.{loaded-accepted, loadRefusal-none, loadRefusal-broken, loadRefusal-kept}
-use Rattle.image.proofs.Laws.RoundTrip.{length-image, image-restored, found-isBody, accepted-restored}
+use Rattle.image.proofs.Laws.RoundTrip.{length-image, image-restored, found-isState, accepted-restored}
 
 -- ---- Saved
 module _ {s space : List ℕ} where
@@ -31,25 +35,29 @@ module _ {s space : List ℕ} where
         refusal = sym (saveRefusal-short space short);
         bytes = sym (written-short space _ short);
         machine = λ _. sym (written-short space _ short);
-        restored = λ z _ _ _. absurd (omega (arith, z, saveRefusal-short space short));
+        restored = λ z _ _ _ _. absurd (omega (arith, z, saveRefusal-short space short));
       }
 
-  pub saved-whole : {d₁ d₂ tail : List ℕ} → length s ≡ stateLength → imageLength ≤ length space →
-      tail ≡ trailer 1 s →
-      d₁ ≡ paste space 0 s (length s) →
+  pub saved-whole : {b d₁ d₂ tail : List ℕ} → length s ≡ stateLength → imageLength ≤ length space →
+      b ≡ take bodyLength s →
+      tail ≡ trailer 1 b →
+      d₁ ≡ paste space 0 b (length b) →
       d₂ ≡ paste d₁ bodyLength tail (length tail) →
       Saved s space 0 d₂
   unfolding image
-  saved-whole {d₁} {d₂} {tail} long room t e f =
-      let bytes : d₂ ≡ savedBytes s space = sealed-written s space d₁ d₂ tail long e t f ∙ sym (written-room space _ room) in
-      let machine : IsBody s → d₂ ≡ written (image (view s)) space = λ b. bytes ∙ ap (λ (x : List ℕ). written (sealed 1 x) space) b in
+  saved-whole {b} {d₁} {d₂} {tail} long room part t e f =
+      let size : length b ≡ bodyLength = ap length part ∙ length-take bodyLength s ∙ omega arith in
+      let bytes : d₂ ≡ savedBytes s space =
+      sealed-written b space d₁ d₂ tail size e t f ∙ sym (written-room space _ room) ∙ ap (λ (x : List ℕ). written (sealed 1 x) space) part in
+      let machine : IsState s → d₂ ≡ written (image (view s)) space =
+      λ e. bytes ∙ ap (λ (x : List ℕ). written (sealed 1 x) space) (body-front s long e) in
       record {
         refusal = sym (saveRefusal-room space room);
         bytes = bytes;
         machine = machine;
-        restored = λ z b k front.
-            let first = ap (take imageLength) (machine b) ∙ take-written space (image (view s)) (length-image (view s) k) z in
-            subst (λ (x : List ℕ). Restored (view s) (front ++ x)) (sym first) (image-restored (view s) k front);
+        restored = λ z e k plain front.
+            let first = ap (take imageLength) (machine e) ∙ take-written space (image (view s)) (length-image (view s) k) z in
+            subst (λ (x : List ℕ). Restored (view s) (front ++ x)) (sym first) (image-restored (view s) k front plain);
       }
 
 -- ---- Loaded
@@ -62,7 +70,7 @@ module _ {s bytes : List ℕ} where
         stored = λ z. absurd (stands (sym e ∙ z));
         machine = sym (loaded-refused (view s) bytes n e stands);
         restored = λ z. absurd (stands (sym e ∙ z));
-        isBody = λ b. b;
+        isState = λ b. b;
         kept = λ k. k;
       }
 
@@ -78,17 +86,22 @@ module _ {s bytes : List ℕ} where
         let judged = sym (test ∙ ap bodyKept here) ∙ not-true _ broken in
         load-refused (loadRefusal-broken bytes (some-ends bytes here some) judged) (λ e. omega arith)
 
-    -- one that is copied over the state
-    pub load-stored : {kept : Bool} {s′ : List ℕ} → length s ≡ stateLength → Below 256 bytes →
+    -- one that is copied over a fresh state
+    pub load-stored : {kept : Bool} {x : Settings} {t s′ : List ℕ} → Below 256 bytes →
         kept ≡ bodyKept b →
         not kept ≡ false →
-        s′ ≡ paste s 0 b (length b) →
+        x ≡ ordinary →
+        t ≡ stateOf (fresh x) →
+        s′ ≡ paste t 0 b (length b) →
         Loaded s bytes 0 s′
-    load-stored {s′ = s′} long bound test keeps copied =
+    load-stored {t = t} {s′ = s′} bound test keeps plain start copied =
         let judged = sym (test ∙ ap bodyKept here) ∙ not-false _ keeps in
         let z = loadRefusal-kept bytes (some-ends bytes here some) judged in
-        let same : s′ ≡ found bytes = copied ∙ paste-whole s b (omega (arith, some-sixty bytes here some)) ∙ here in
-        let whole : IsBody s′ = subst IsBody (sym same) (found-isBody bytes z) in
+        let behind : drop (length b) t ≡ beyond (fresh ordinary .plain) =
+        ap₂ drop (some-long bytes here some) (start ∙ ap (λ (x : Settings). stateOf (fresh x)) plain)
+        ∙ drop-body (fresh ordinary) (fresh-kept ordinary .code) (fresh-kept ordinary .ram) in
+        let same : s′ ≡ stateFrom (found bytes) = copied ∙ paste-first t b ∙ ap₂ (λ (x y : List ℕ). x ++ y) here behind in
+        let whole : IsState s′ = subst IsState (sym same) (found-isState bytes z) in
         let restored : Restored (view s′) bytes =
         subst (λ (x : List ℕ). Restored (view x) bytes) (sym same) (accepted-restored bytes z bound) in
         record {
@@ -97,6 +110,6 @@ module _ {s bytes : List ℕ} where
           stored = λ _. (same, whole);
           machine = ap view same ∙ sym (loaded-accepted (view s) bytes z);
           restored = λ _. restored;
-          isBody = λ _. whole;
+          isState = λ _. whole;
           kept = λ _. restored .kept;
         }

@@ -1,41 +1,43 @@
--- Saving and loading undo each other: specs/Restored of the image of every machine that keeps the body rules, wherever it stands, and of every
--- image that a load accepts. Assumes nothing.
-use mathlib.Core.Path.{_≡_, ap, sym, subst, _∙_}
+-- Saving and loading undo each other: specs/Restored of the image of every machine that keeps the body rules and has the ordinary settings,
+-- wherever it stands, and of every image that a load accepts. Assumes nothing.
+use mathlib.Core.Path.{_≡_, ap, ap₂, sym, subst, _∙_}
 use mathlib.Core.Bool.{true, false, not}
-use mathlib.Core.List.{List, _++_}
-use Prim.Native.Nat.{ℕ, suc, _+_, _-_, _≤_, _<_}
+use mathlib.Core.List.{List, [], _∷_, _++_}
+use Prim.Native.Nat.{ℕ, zero, suc, _+_, _-_, _≤_, _<_}
 use native.Mathlib.Omega.{arith}
-use lib.ListN.{length, getD, take, drop, length-take, length-drop}
-use lib.Seq.{take-append-seam, drop-append-seam, getD-drop}
+use lib.ListN.{length, getD, take, drop, length-take, length-drop, length-append}
+use lib.Seq.{take-append-seam, drop-append-seam, take-at, drop-at, getD-drop}
 use lib.Dec.{eqb}
 use borrow.Author.Tests.{ne-eqb, eqb-true, eqb-false, not-true}
-use Rattle.machine.specs.State.{Machine}
+use Rattle.machine.specs.Settings.{Settings, ordinary}
+use Rattle.machine.specs.State.{Machine, fresh}
 use Rattle.machine.specs.Lines.{nibble}
 use Rattle.machine.specs.Kept.{Kept}
-use Rattle.machine.specs.View.{body, at, view, IsBody}
-use Rattle.machine.proofs.Laws.Lists.{Below, below-take, below-drop, length-part}
+use Rattle.machine.specs.View.{stateLength, body, optionsOf, beyond, stateOf, at, view, IsState}
+use Rattle.machine.proofs.Laws.Lists.{Below, below-take, below-drop, below-append, length-part}
 use Rattle.machine.proofs.Laws.Bits.{flags-full, flags-mouse, flags-locked, flags-below, latches-below, overlay-below, eqb-nibble}
 use Rattle.machine.proofs.Laws.Code.{code-long, code-byte}
 use Rattle.machine.proofs.Laws.View.{ram-of}
-use Rattle.machine.proofs.Laws.Body.{length-body, code-part, drop-28, view-body, Tidy, tidy-body}
+use Rattle.machine.proofs.Laws.Settings.{fresh-settings}
+use Rattle.machine.proofs.Laws.Body.{length-body, code-part, ram-part, view-state, Tidy, tidy-state, body-front}
 use Rattle.image.specs.Layout.{bodyLength, imageLength, sealed, image}
 use Rattle.image.specs.Find.{lastBytes, ends, found}
 use Rattle.image.specs.Rules.{every, isZero, nonzero, bodyKept}
-use Rattle.image.specs.Load.{loadRefusal}
+use Rattle.image.specs.Load.{loadRefusal, stateFrom, resumed}
 use Rattle.image.specs.Restored.{Restored}
 use Rattle.image.proofs.Laws.Layout.{length-sealed}
-use Rattle.image.proofs.Laws.Rules.{Rules, every-at, every-all, every-zeros, bodyKept-rules, rules-bodyKept}
+use Rattle.image.proofs.Laws.Rules.{Rules, every-at, every-all, every-zeros, bodyKept-rules, rules-bodyKept, bodyKept-front}
 use Rattle.image.proofs.Laws.Find.{ends-sealed, sealed-ends, found-body}
 use Rattle.image.proofs.Laws.Trailer.{lastBytes-append, bodyOf-sealed, sealed-trailer, lastBytes-sealed}
 use Rattle.image.proofs.Laws.Load.{length-found, loaded-accepted, loadRefusal-kept, accepted}
 
--- ---- the machine of a body that keeps the rules
-module _ (b : List ℕ) (long : length b ≡ bodyLength) (r : Rules b) where
+-- ---- the machine of a state that keeps the rules
+module _ (s : List ℕ) (long : length s ≡ stateLength) (r : Rules s) (options : at s 60 < 2) where
   abbrev code : List ℕ
-  code = take 16 (drop 12 b)
+  code = take 16 (drop 12 s)
 
   -- what stands for nothing in it is 0
-  rules-tidy : Tidy b
+  rules-tidy : Tidy s
   rules-tidy =
       record {
         long = long;
@@ -44,18 +46,19 @@ module _ (b : List ℕ) (long : length b ≡ bodyLength) (r : Rules b) where
         overlay = omega (arith, r .overlay);
         size = omega (arith, r .count);
         rest = λ k low high.
-            let past : at b 10 + (k - at b 10) ≡ k = omega arith in
-            let shown : k - at b 10 < length (drop (at b 10) code) = omega (arith, length-drop (at b 10) code, code-long b long) in
-            code-byte b k high
+            let past : at s 10 + (k - at s 10) ≡ k = omega arith in
+            let shown : k - at s 10 < length (drop (at s 10) code) = omega (arith, length-drop (at s 10) code, code-long s long) in
+            code-byte s k high
             ∙ ap (λ (j : ℕ). getD code j 0) (sym past)
-            ∙ sym (getD-drop (at b 10) code (k - at b 10) 0)
-            ∙ eqb-true _ 0 (every-at isZero (drop (at b 10) code) (r .after) (k - at b 10) shown);
+            ∙ sym (getD-drop (at s 10) code (k - at s 10) 0)
+            ∙ eqb-true _ 0 (every-at isZero (drop (at s 10) code) (r .after) (k - at s 10) shown);
+        options = options;
       }
 
-  count-shown : length (take (at b 10) code) ≡ at b 10
-  count-shown = length-take (at b 10) code ∙ omega (arith, code-long b long, r .count)
+  count-shown : length (take (at s 10) code) ≡ at s 10
+  count-shown = length-take (at s 10) code ∙ omega (arith, code-long s long, r .count)
 
-  view-kept : Below 256 b → Kept (view b)
+  view-kept : Below 256 s → Kept (view s)
   view-kept bytes =
       record {
         output = bytes 0;
@@ -65,7 +68,7 @@ module _ (b : List ℕ) (long : length b ≡ bodyLength) (r : Rules b) where
         cell = r .cell;
         noCell = r .noCell;
         nibble = r .nibble;
-        noNibble = λ e. r .noNibble (omega (arith, r .overlay, eqb-false (at b 6) 1 e));
+        noNibble = λ e. r .noNibble (omega (arith, r .overlay, eqb-false (at s 6) 1 e));
         to = r .to;
         sent = bytes 9;
         noSent = r .noSent;
@@ -73,24 +76,24 @@ module _ (b : List ℕ) (long : length b ≡ bodyLength) (r : Rules b) where
         codeBytes = λ k h. (each k h, below k);
         locked = λ e. let l = r .locked e in (omega (arith, count-shown, l .0), l .1, l .2);
         unlocked = r .unlocked;
-        ram = ap suc (length-part 29 31 b (omega arith));
-        cells = subst (Below 256) (sym (ram-of b long)) (below-take 256 32 (drop 28 b) (omega arith) (below-drop 256 28 b bytes));
+        ram = ap suc (length-part 29 31 s (omega arith));
+        cells = subst (Below 256) (sym (ram-of s long)) (below-take 256 32 (drop 28 s) (omega arith) (below-drop 256 28 s bytes));
         modeByte = r .modeByte;
       }
     where
-      below : Below 256 (take (at b 10) code)
-      below = below-take 256 (at b 10) code (omega arith) (below-take 256 16 (drop 12 b) (omega arith) (below-drop 256 12 b bytes))
+      below : Below 256 (take (at s 10) code)
+      below = below-take 256 (at s 10) code (omega arith) (below-take 256 16 (drop 12 s) (omega arith) (below-drop 256 12 s bytes))
 
-      each : (k : ℕ) → k < length (take (at b 10) code) → 1 ≤ getD (take (at b 10) code) k 0
+      each : (k : ℕ) → k < length (take (at s 10) code) → 1 ≤ getD (take (at s 10) code) k 0
       each k h =
-          let byte = getD (take (at b 10) code) k 0 in
-          omega (arith, eqb-false byte 0 (not-true (eqb byte 0) (every-at nonzero (take (at b 10) code) (r .code) k h)))
+          let byte = getD (take (at s 10) code) k 0 in
+          omega (arith, eqb-false byte 0 (not-true (eqb byte 0) (every-at nonzero (take (at s 10) code) (r .code) k h)))
 
 -- ---- the body of a machine that keeps the rules
 module _ (m : Machine) (k : Kept m) where
-  body-rules : Rules (body m)
-  unfolding body
-  body-rules =
+  state-rules : Rules (stateOf m)
+  unfolding stateOf body
+  state-rules =
       let p = m .plain in
       let c = m .secret .code in
       record {
@@ -113,7 +116,7 @@ module _ (m : Machine) (k : Kept m) where
             ∙ every-zeros (16 - length c);
         locked = λ e. k .locked (sym (flags-locked p) ∙ e);
         unlocked = λ e. k .unlocked (sym (flags-locked p) ∙ e);
-        modeByte = omega (arith, getD-drop 28 (body m) 0 0, ap (λ (l : List ℕ). getD l 0 0) (drop-28 m (k .code)), k .modeByte);
+        modeByte = omega (arith, ap (λ (l : List ℕ). getD l 0 0) (ram-part m (k .code) (k .ram)), k .modeByte);
       }
     where
       nonzeros : every nonzero (m .secret .code) ≡ true
@@ -122,9 +125,19 @@ module _ (m : Machine) (k : Kept m) where
   body-long : length (body m) ≡ bodyLength
   body-long = length-body m (k .code) (k .ram)
 
+  body-kept : bodyKept (body m) ≡ true
+  unfolding stateOf
+  body-kept = sym (bodyKept-front (body m) (beyond (m .plain)) body-long) ∙ rules-bodyKept (stateOf m) state-rules
+
   pub length-image : length (image m) ≡ imageLength
   unfolding image
   length-image = length-sealed 1 (body m) ∙ ap (λ (n : ℕ). n + 8) body-long
+
+  -- with the ordinary settings behind it, it is the state
+  resumed-body : m .plain .settings ≡ ordinary → view (stateFrom (body m)) ≡ m
+  unfolding stateOf
+  resumed-body plain =
+      ap (λ (x : Settings). view (body m ++ (optionsOf x ∷ []))) (fresh-settings ordinary ∙ sym plain) ∙ view-state m (k .code) (k .ram)
 
   -- ---- its image behind other bytes
   module _ (front : List ℕ) where
@@ -139,48 +152,90 @@ module _ (m : Machine) (k : Kept m) where
 
     image-accepted : loadRefusal (front ++ image m) ≡ 0
     image-accepted =
-        loadRefusal-kept (front ++ image m) image-ends (ap bodyKept found-image ∙ rules-bodyKept (body m) body-rules)
+        loadRefusal-kept (front ++ image m) image-ends (ap bodyKept found-image ∙ body-kept)
 
-    pub image-restored : Restored m (front ++ image m)
-    image-restored =
+    pub image-restored : m .plain .settings ≡ ordinary → Restored m (front ++ image m)
+    image-restored plain =
         record {
           accepted = image-accepted;
           body = found-image;
           machine = λ before.
-              loaded-accepted before (front ++ image m) image-accepted ∙ ap view found-image ∙ view-body m (k .code) (k .ram);
+              loaded-accepted before (front ++ image m) image-accepted ∙ ap (λ (b : List ℕ). view (stateFrom b)) found-image ∙ resumed-body plain;
           kept = k;
           again = sym (lastBytes-append front (image m) imageLength length-image);
         }
+
+-- ---- the state of a body
+-- the bytes behind it
+beyond-below : (x : Settings) → Below 256 (beyond (fresh x .plain))
+beyond-below x zero = omega (arith, overlay-below (fresh x .plain .settings .mouseLock))
+beyond-below x (suc k) = omega arith
+
+module _ (b : List ℕ) (long : length b ≡ bodyLength) where
+  abbrev behind : List ℕ
+  behind = beyond (fresh ordinary .plain)
+
+  stateFrom-long : length (stateFrom b) ≡ stateLength
+  stateFrom-long = length-append b behind ∙ omega arith
+
+  take-stateFrom : take bodyLength (stateFrom b) ≡ b
+  take-stateFrom = take-at b behind bodyLength long
+
+  stateFrom-options : at (stateFrom b) 60 < 2
+  stateFrom-options =
+      let options : at (stateFrom b) 60 ≡ getD behind 0 0 =
+      sym (getD-drop 60 (stateFrom b) 0 0) ∙ ap (λ (l : List ℕ). getD l 0 0) (drop-at b behind 60 long) in
+      omega (arith, options, overlay-below (fresh ordinary .plain .settings .mouseLock))
+
+  stateFrom-rules : bodyKept b ≡ true → Rules (stateFrom b)
+  stateFrom-rules passed = bodyKept-rules (stateFrom b) (bodyKept-front b behind long ∙ passed)
 
 -- ---- an image that is accepted
 module _ (bytes : List ℕ) (z : loadRefusal bytes ≡ 0) where
   found-long : length (found bytes) ≡ bodyLength
   found-long = length-found bytes (accepted bytes z .0)
 
-  found-rules : Rules (found bytes)
-  found-rules = bodyKept-rules (found bytes) (accepted bytes z .1)
+  abbrev made : List ℕ
+  made = stateFrom (found bytes)
 
-  -- its body is that of its machine
-  pub found-isBody : IsBody (found bytes)
-  found-isBody = tidy-body (found bytes) (rules-tidy (found bytes) found-long found-rules)
+  made-long : length made ≡ stateLength
+  made-long = stateFrom-long (found bytes) found-long
 
-  pub accepted-restored : Below 256 bytes → Restored (view (found bytes)) bytes
+  made-rules : Rules made
+  made-rules = stateFrom-rules (found bytes) found-long (accepted bytes z .1)
+
+  -- the state that it makes is that of its machine
+  pub found-isState : IsState made
+  found-isState = tidy-state made (rules-tidy made made-long made-rules (stateFrom-options (found bytes) found-long))
+
+  found-body-of : found bytes ≡ body (resumed bytes)
+  found-body-of = sym (take-stateFrom (found bytes) found-long) ∙ body-front made made-long found-isState
+
+  made-below : Below 256 bytes → Below 256 made
+  made-below bound =
+      let inside : Below 256 (found bytes) =
+      subst (Below 256) (sym (found-body bytes (accepted bytes z .0)))
+      (below-take 256 bodyLength (lastBytes imageLength bytes) (omega arith) (below-drop 256 (length bytes - 68) bytes bound)) in
+      below-append 256 (found bytes) _ inside (beyond-below ordinary)
+
+  pub accepted-restored : Below 256 bytes → Restored (resumed bytes) bytes
   unfolding image
   accepted-restored bound =
       let ended = accepted bytes z .0 in
-      let below : Below 256 (found bytes) =
-      subst (Below 256) (sym (found-body bytes ended))
-      (below-take 256 bodyLength (lastBytes imageLength bytes) (omega arith) (below-drop 256 (length bytes - 68) bytes bound)) in
       record {
         accepted = z;
-        body = found-isBody;
+        body = found-body-of;
         machine = λ before. loaded-accepted before bytes z;
-        kept = view-kept (found bytes) found-long found-rules below;
+        kept = view-kept made made-long made-rules (stateFrom-options (found bytes) found-long) (made-below bound);
         again =
-            ap (sealed 1) (sym found-isBody ∙ found-body bytes ended)
+            ap (sealed 1) (sym found-body-of ∙ found-body bytes ended)
             ∙ sym (lastBytes-sealed 1 bodyLength bytes (ends-sealed 1 bodyLength bytes ended) bound);
       }
 
--- ---- one machine for a body
-pub body-injective : (m n : Machine) → Kept m → Kept n → body m ≡ body n → m ≡ n
-body-injective m n k l e = sym (view-body m (k .code) (k .ram)) ∙ ap view e ∙ view-body n (l .code) (l .ram)
+-- ---- one machine for a body and the settings
+pub body-injective : (m n : Machine) → Kept m → Kept n → m .plain .settings ≡ n .plain .settings → body m ≡ body n → m ≡ n
+unfolding stateOf
+body-injective m n k l same e =
+    sym (view-state m (k .code) (k .ram))
+    ∙ ap₂ (λ (b : List ℕ) (x : Settings). view (b ++ (optionsOf x ∷ []))) e same
+    ∙ view-state n (l .code) (l .ram)

@@ -1,7 +1,7 @@
 -- Laws of the definitions in specs/Rules. Assumes nothing.
 use mathlib.Core.Path.{_≡_, refl, ap, _∙_}
 use mathlib.Core.Bool.{Bool, true, false}
-use mathlib.Core.List.{List, [], _∷_}
+use mathlib.Core.List.{List, [], _∷_, _++_}
 use Prim.Native.Nat.{ℕ, zero, suc, _+_, _≤_, _<_}
 use native.Mathlib.Omega.{arith}
 use native.Mathlib.Nat.{not-suc-le-zero}
@@ -13,7 +13,9 @@ use lib.Seq.{drop-cons}
 use Rattle.translation.specs.Bits.{has}
 use Rattle.image.specs.Rules.{every, isZero, nonzero}
 use Rattle.image.specs.Rules.{flagsKept, latchesKept, pendingKept, overlayKept, sendingKept, codeKept, lockKept, modeKept, bodyKept}
+use Rattle.image.specs.Layout.{bodyLength}
 use Rattle.machine.specs.View.{at}
+use Rattle.machine.proofs.Laws.Lists.{front}
 use Rattle.translation.proofs.Tests.{split, and-true}
 use Rattle.image.proofs.Laws.Tests.{and-passed, and-failed, and-both, cond-shows, cond-passes}
 
@@ -148,3 +150,8 @@ module _ (b : List ℕ) where
           cond-passes _ _ _
           (λ h. let l = r .locked h in and-both _ _ (lt-ltb _ _ (l .0)) (and-both _ _ (eq-eqb _ _ (l .1)) (eq-eqb _ _ (l .2))))
           (λ h. eq-eqb _ _ (r .unlocked h))
+
+-- they look at no byte behind the body
+pub bodyKept-front : (b rest : List ℕ) → length b ≡ bodyLength → bodyKept (b ++ rest) ≡ bodyKept b
+unfolding bodyKept flagsKept pendingKept overlayKept sendingKept codeKept lockKept
+bodyKept-front b rest long = front 29 (λ (l : List ℕ). bodyKept (l ++ rest) ≡ bodyKept l) b (omega arith) refl

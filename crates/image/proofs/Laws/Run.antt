@@ -5,23 +5,24 @@ use Prim.Native.Nat.{ℕ, _*_, _≤_, _<_}
 use native.Mathlib.Omega.{arith}
 use lib.ListN.{length, drop}
 use borrow.Author.Tests.{eq-eqb, ne-eqb}
+use Rattle.machine.specs.Settings.{ordinary}
 use Rattle.machine.specs.State.{Machine}
 use Rattle.machine.specs.Events.{Event}
 use Rattle.machine.specs.Run.{events, after, answers, filled, listRefusal}
 use Rattle.machine.specs.Kept.{Kept}
-use Rattle.machine.specs.View.{body, view, IsBody}
-use Rattle.machine.proofs.Laws.Body.{view-body}
+use Rattle.machine.specs.View.{stateOf, view, IsState}
+use Rattle.machine.proofs.Laws.Settings.{after-settings}
 use Rattle.machine.proofs.Laws.Run.{after-kept, after-append, answers-append}
 use Rattle.controller.specs.Promises.{ListRun}
 use Rattle.image.specs.Layout.{imageLength, image}
-use Rattle.image.specs.Find.{found}
-use Rattle.image.specs.Load.{loadRefusal}
+use Rattle.image.specs.Load.{loadRefusal, resumed}
 use Rattle.image.specs.Save.{saveRefusal, saved}
 use Rattle.image.specs.Restored.{Restored}
 use Rattle.image.specs.Promises.{Saved, Loaded}
 use Rattle.image.specs.Run.{runRefusal, SplitRun, ImageRun}
 use Rattle.image.proofs.Laws.Tests.{cond-true, cond-false}
 use Rattle.image.proofs.Laws.Save.{saveRefusal-short, saveRefusal-room}
+use Rattle.image.proofs.Laws.Load.{loaded-accepted}
 use Rattle.image.proofs.Laws.RoundTrip.{image-restored}
 
 -- ---- runRefusal
@@ -47,20 +48,21 @@ refusal-loaded list space room {bytes = bytes} a enough load =
     load .refusal ∙ sym (refusal-load bytes list space room a (saveRefusal-room room enough))
 
 -- ---- SplitRun
-restored-view : {m : Machine} {bytes : List ℕ} → Restored m bytes → view (found bytes) ≡ m
-restored-view {m} r = ap view (r .body) ∙ view-body m (r .kept .code) (r .kept .ram)
+restored-resumed : {m : Machine} {bytes : List ℕ} → Restored m bytes → resumed bytes ≡ m
+restored-resumed {m} {bytes} r = sym (loaded-accepted m bytes (r .accepted)) ∙ r .machine m
 
-module _ (m : Machine) (es : List Event) (front : List ℕ) (k : Kept m) {bytes : List ℕ} (here : bytes ≡ front ++ image (after m es)) where
+module _ (m : Machine) (es : List Event) (front : List ℕ) (k : Kept m) (plain : m .plain .settings ≡ ordinary)
+    {bytes : List ℕ} (here : bytes ≡ front ++ image (after m es)) where
   middle : Restored (after m es) bytes
-  middle = rw here (image-restored (after m es) (after-kept m es k) front)
+  middle = rw here (image-restored (after m es) (after-kept m es k) front (after-settings m es ∙ plain))
 
   split-run : (fs : List Event) {space room space′ room′ : List ℕ} →
-      space′ ≡ filled (view (found bytes)) fs space →
-      room′ ≡ saved (after (view (found bytes)) fs) room →
+      space′ ≡ filled (resumed bytes) fs space →
+      room′ ≡ saved (after (resumed bytes) fs) room →
       SplitRun m es fs space room space′ room′
   unfolding filled
   split-run fs {space} {room} answered imaged =
-      let v = restored-view middle in
+      let v = restored-resumed middle in
       let rest = drop (9 * length fs) space in
       record {
         answered =
@@ -79,8 +81,8 @@ module _ {bytes list space room : List ℕ} where
         refused = λ _. (refl, refl);
         answered = λ z. absurd (stands (e ∙ z));
         imaged = λ z. absurd (stands (e ∙ z));
-        split = λ m es front k here a b.
-            absurd (stands (e ∙ refusal-load bytes list space room a b ∙ middle m es front k here .accepted));
+        split = λ m es front k plain here a b.
+            absurd (stands (e ∙ refusal-load bytes list space room a b ∙ middle m es front k plain here .accepted));
       }
 
   -- l is what the checks of the list came to
@@ -106,16 +108,16 @@ module _ {bytes list space room : List ℕ} where
             let zero : listRefusal list space ≡ 0 = sym listed ∙ fits in
             let passed : runRefusal bytes list space room ≡ 0 = sym (refusal-loaded list space room zero enough load) ∙ good in
             let stored = load .stored (sym (load .refusal) ∙ good) in
-            let from : view t ≡ view (found bytes) = ap view (stored .0) in
-            let whole : IsBody u = run .bytes zero (stored .1) ∙ ap body (sym (run .machine zero)) in
-            let answered : space′ ≡ filled (view (found bytes)) (events list) space =
+            let from : view t ≡ resumed bytes = ap view (stored .0) in
+            let whole : IsState u = run .bytes zero (stored .1) ∙ ap stateOf (sym (run .machine zero)) in
+            let answered : space′ ≡ filled (resumed bytes) (events list) space =
             run .buffer zero ∙ ap (λ (m : Machine). filled m (events list) space) from in
-            let imaged : room′ ≡ saved (after (view (found bytes)) (events list)) room =
+            let imaged : room′ ≡ saved (after (resumed bytes) (events list)) room =
             save .machine whole ∙ ap (λ (m : Machine). saved m room) (run .machine zero ∙ ap (λ (m : Machine). after m (events list)) from) in
             record {
               refusal = sym passed;
               refused = λ stands. absurd (stands passed);
               answered = λ _. answered;
               imaged = λ _. imaged;
-              split = λ m es front k here _ _. (refl, split-run m es front k here (events list) answered imaged);
+              split = λ m es front k plain here _ _. (refl, split-run m es front k plain here (events list) answered imaged);
             }

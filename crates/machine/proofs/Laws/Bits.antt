@@ -143,6 +143,10 @@ overlay-below b = omega (arith, nibble-weights b false false false, weight-le 1 
 pub overlay-byte : (x : ℕ) → x ≤ 1 → nibble (eqb x 1) false false false ≡ x
 overlay-byte x h = omega (arith, nibble-weights (eqb x 1) false false false, weight-test x (omega arith))
 
+-- ---- options
+pub options-byte : (x : ℕ) → x < 2 → nibble (has x 0) false false false ≡ x
+options-byte x h = omega (arith, nibble-weights (has x 0) false false false, weight-has x 0)
+
 pub latches-0 : (a b : Bool) → has (nibble a b false false) 0 ≡ a
 latches-0 a b = has-line (nibble a b false false) 0 a (omega (arith, nibble-weights a b false false, weight-le 1 a))
 

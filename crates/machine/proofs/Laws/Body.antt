@@ -1,57 +1,87 @@
 -- The bytes of a machine and the machine of bytes: each undoes the other where what stands for nothing is 0. Assumes nothing.
 use mathlib.Core.Path.{_≡_, refl, ap, ap₂, sym, subst, _∙_}
-use mathlib.Core.List.{List, [], _∷_, _++_}
+use mathlib.Core.Bool.{false}
+use mathlib.Core.List.{List, [], _∷_, _++_, append-assoc}
 use Prim.Native.Nat.{ℕ, zero, suc, _+_, _-_, _≤_, _<_}
 use native.Mathlib.Omega.{arith}
-use lib.ListN.{length, getD, take, drop, replicate, length-append, length-replicate, length-take, length-drop, take-append-drop}
+use lib.ListN.{length, getD, take, drop, set, replicate, length-append, length-replicate, length-take, length-drop, take-append-drop}
 use lib.Seq.{take-at, drop-at, take-all, take-append-seam, drop-append-seam, take-add, drop-cons, getD-take, getD-drop}
-use Rattle.machine.specs.State.{Machine}
-use Rattle.machine.specs.View.{stateLength, head, padded, body, at, view, IsBody}
+use Rattle.machine.specs.Settings.{Settings, settingsOf}
+use Rattle.machine.specs.State.{Machine, fresh}
+use Rattle.machine.specs.Lines.{nibble}
+use Rattle.machine.specs.View.{stateLength, head, padded, body, optionsOf, beyond, stateOf, at, view, IsState}
 use Rattle.machine.proofs.Laws.Bounds.{getD-zeros}
 use Rattle.machine.proofs.Laws.Lists.{listed, take-listed, length-part}
 use Rattle.machine.proofs.Laws.Bits.{flags-full, flags-mouse, flags-command, flags-terr, flags-perr, flags-breaks, flags-locked}
 use Rattle.machine.proofs.Laws.Bits.{flags-below, flags-byte, latches-0, latches-1, latches-below, latches-byte}
-use Rattle.machine.proofs.Laws.Bits.{overlay-below, overlay-byte, eqb-nibble}
+use Rattle.machine.proofs.Laws.Bits.{overlay-below, overlay-byte, eqb-nibble, options-byte}
 use Rattle.machine.proofs.Laws.Code.{code-long}
 
 -- ---- padded
-pub length-padded : (code : List ℕ) → length code ≤ 16 → length (padded code) ≡ 16
+length-padded : (code : List ℕ) → length code ≤ 16 → length (padded code) ≡ 16
 length-padded code h = simp (length-append, length-replicate) (omega arith)
 
 zeros : (l : List ℕ) → ((k : ℕ) → k < length l → getD l k 0 ≡ 0) → l ≡ replicate (length l) 0
 zeros [] each = refl
 zeros (x ∷ l) each = ap₂ _∷_ (each zero (omega arith)) (zeros l (λ k h. each (suc k) (omega arith)))
 
--- ---- the parts of a body
-module _ (m : Machine) (short : length (m .secret .code) ≤ 16) where
-  pub code-part : take 16 (drop 12 (body m)) ≡ padded (m .secret .code)
-  unfolding body
-  code-part = take-at (padded (m .secret .code)) (m .plain .ram) 16 (length-padded (m .secret .code) short)
+-- ---- optionsOf
+settings-options : (x : Settings) → settingsOf (optionsOf x) ≡ x
+settings-options x = λ i. record { mouseLock = latches-0 (x .mouseLock) false i }
 
-  pub drop-28 : drop 28 (body m) ≡ m .plain .ram
-  unfolding body
-  drop-28 = drop-at (padded (m .secret .code)) (m .plain .ram) 16 (length-padded (m .secret .code) short)
+-- ---- the parts of a state
+module _ (m : Machine) (short : length (m .secret .code) ≤ 16) where
+  abbrev code-bytes : List ℕ
+  code-bytes = padded (m .secret .code)
+
+  pub code-part : take 16 (drop 12 (stateOf m)) ≡ padded (m .secret .code)
+  unfolding stateOf body
+  code-part =
+      ap (take 16) (append-assoc code-bytes (m .plain .ram) (beyond (m .plain)))
+      ∙ take-at code-bytes (m .plain .ram ++ beyond (m .plain)) 16 (length-padded (m .secret .code) short)
+
+  drop-28 : drop 28 (stateOf m) ≡ m .plain .ram ++ beyond (m .plain)
+  unfolding stateOf body
+  drop-28 =
+      ap (drop 16) (append-assoc code-bytes (m .plain .ram) (beyond (m .plain)))
+      ∙ drop-at code-bytes (m .plain .ram ++ beyond (m .plain)) 16 (length-padded (m .secret .code) short)
 
   module _ (cells : length (m .plain .ram) ≡ 32) where
-    pub length-body : length (body m) ≡ stateLength
+    pub length-body : length (body m) ≡ 60
     unfolding body
     length-body =
-        let c = padded (m .secret .code) in
-        omega (arith, length-append (head m ++ c) (m .plain .ram), length-append (head m) c, length-padded (m .secret .code) short)
+        omega (arith, length-append (head m ++ code-bytes) (m .plain .ram), length-append (head m) code-bytes, length-padded (m .secret .code) short)
 
-    ram-part : at (body m) 28 ∷ take 31 (drop 29 (body m)) ≡ m .plain .ram
+    length-state : length (stateOf m) ≡ stateLength
+    unfolding stateOf
+    length-state = omega (arith, length-append (body m) (beyond (m .plain)), length-body)
+
+    -- an image's body is the front of it
+    take-body : take 60 (stateOf m) ≡ body m
+    unfolding stateOf
+    take-body = take-at (body m) (beyond (m .plain)) 60 length-body
+
+    pub drop-body : drop 60 (stateOf m) ≡ beyond (m .plain)
+    unfolding stateOf
+    drop-body = drop-at (body m) (beyond (m .plain)) 60 length-body
+
+    pub ram-part : at (stateOf m) 28 ∷ take 31 (drop 29 (stateOf m)) ≡ m .plain .ram
     ram-part =
-        ap (take 32) (sym (drop-cons (body m) 28 0 (omega (arith, length-body)))) ∙ ap (take 32) drop-28 ∙ take-all 32 (m .plain .ram) (omega arith)
+        ap (take 32) (sym (drop-cons (stateOf m) 28 0 (omega (arith, length-state))) ∙ drop-28) ∙ take-at (m .plain .ram) (beyond (m .plain)) 32 cells
+
+    options-part : at (stateOf m) 60 ≡ optionsOf (m .plain .settings)
+    options-part = sym (getD-drop 60 (stateOf m) 0 0) ∙ ap (λ (l : List ℕ). getD l 0 0) drop-body
 
     -- the machine of a machine's bytes is the machine
-    pub view-body : view (body m) ≡ m
-    unfolding body
-    view-body =
+    pub view-state : view (stateOf m) ≡ m
+    unfolding stateOf body
+    view-state =
         let p = m .plain in
         let o = p .output in
         let h = p .host in
-        let code : take (length (m .secret .code)) (take 16 (drop 12 (body m))) ≡ m .secret .code =
+        let code : take (length (m .secret .code)) (take 16 (drop 12 (stateOf m))) ≡ m .secret .code =
         ap (take (length (m .secret .code))) code-part ∙ take-append-seam (m .secret .code) _ in
+        let settings : settingsOf (at (stateOf m) 60) ≡ p .settings = ap settingsOf options-part ∙ settings-options (p .settings) in
         λ i. record {
           plain = record {
             output = record { byte = o .byte; full = flags-full p i; mouse = flags-mouse p i };
@@ -62,13 +92,26 @@ module _ (m : Machine) (short : length (m .secret .code) ≤ 16) where
             breaks = flags-breaks p i;
             locked = flags-locked p i;
             ram = ram-part i;
+            settings = settings i;
           };
           secret = record { code = code i; position = m .secret .position };
         }
 
-    -- so its bytes are those of their machine
-    pub body-isBody : IsBody (body m)
-    body-isBody = ap body (sym view-body)
+-- ---- fresh
+-- the bytes that a start stores
+abbrev pub started : ℕ → List ℕ
+started options = set (set (set (set (replicate 61 0) 2 0xFF) 3 3) 28 0x70) 60 options
+
+started-state : (x : Settings) → started (optionsOf x) ≡ stateOf (fresh x)
+unfolding stateOf body fresh nibble
+started-state x = refl
+
+pub fresh-started : (x : Settings) {options : ℕ} → options ≡ optionsOf x →
+    (started options ≡ stateOf (fresh x)) × (view (started options) ≡ fresh x)
+unfolding fresh
+fresh-started x same =
+    let bytes = ap started same ∙ started-state x in
+    (bytes, ap view bytes ∙ view-state (fresh x) (omega arith) refl)
 
 -- ---- what stands for nothing is 0
 pub record Tidy (s : List ℕ) : Type 0 where
@@ -78,6 +121,7 @@ pub record Tidy (s : List ℕ) : Type 0 where
   pub overlay : at s 6 < 2
   pub size : at s 10 < 17
   pub rest : (k : ℕ) → at s 10 ≤ k → k < 16 → at s (12 + k) ≡ 0
+  pub options : at s 60 < 2
 
 -- such bytes are those of their machine
 module _ (s : List ℕ) (t : Tidy s) where
@@ -126,16 +170,23 @@ module _ (s : List ℕ) (t : Tidy s) where
       ∙ ap (λ (l : List ℕ). take (at s 10) code ++ l) (sym rest-zero)
       ∙ take-append-drop (at s 10) code
 
-  pub tidy-body : IsBody s
+  body-view : body (view s) ≡ take 60 s
   unfolding body
-  tidy-body =
+  body-view =
       let cells : at s 28 ∷ take 31 (drop 29 s) ≡ take 32 (drop 28 s) = ap (take 32) (sym (drop-cons s 28 0 (omega arith))) in
-      sym
-      (ap₂ (λ (x y : List ℕ). x ++ y ++ (at s 28 ∷ take 31 (drop 29 s))) head-view padded-view
+      ap₂ (λ (x y : List ℕ). x ++ y ++ (at s 28 ∷ take 31 (drop 29 s))) head-view padded-view
       ∙ ap (λ (x : List ℕ). (take 12 s ++ code) ++ x) cells
       ∙ ap (λ (x : List ℕ). x ++ take 32 (drop 28 s)) (sym (take-add 12 16 s))
       ∙ sym (take-add 28 32 s)
-      ∙ take-all 60 s (omega arith))
+
+  pub tidy-state : IsState s
+  unfolding stateOf
+  tidy-state =
+      sym
+      (ap₂ (λ (x : List ℕ) (y : ℕ). x ++ (y ∷ [])) body-view (options-byte (at s 60) (t .options))
+      ∙ ap (λ (x : List ℕ). take 60 s ++ x) (sym (take-listed 60 1 s (omega arith)))
+      ∙ sym (take-add 60 1 s)
+      ∙ take-all 61 s (omega arith))
 
 -- and the other way round
 module _ (s : List ℕ) (long : length s ≡ stateLength) where
@@ -145,26 +196,31 @@ module _ (s : List ℕ) (long : length s ≡ stateLength) where
   cells : length (view s .plain .ram) ≡ 32
   cells = ap suc (length-part 29 31 s (omega arith))
 
-  view-tidy : Tidy (body (view s))
-  unfolding body
+  view-tidy : Tidy (stateOf (view s))
+  unfolding stateOf body
   view-tidy =
       let m = view s in
       let c = m .secret .code in
       record {
-        long = length-body m short cells;
+        long = length-state m short cells;
         flags = flags-below (m .plain);
         latches = latches-below (m .plain .ports .p20) (m .plain .ports .p21);
         overlay = omega (arith, overlay-below (m .plain .host .overlay));
         size = omega (arith, short);
         rest = λ k low high.
             let past : length c + (k - length c) ≡ k = omega (arith, low) in
-            sym (getD-drop 12 (body m) k 0) ∙ sym (getD-take 16 (drop 12 (body m)) k 0 high)
+            sym (getD-drop 12 (stateOf m) k 0) ∙ sym (getD-take 16 (drop 12 (stateOf m)) k 0 high)
             ∙ ap (λ (l : List ℕ). getD l k 0) (code-part m short)
             ∙ ap (λ (j : ℕ). getD (padded c) j 0) (sym past)
             ∙ sym (getD-drop (length c) (padded c) (k - length c) 0)
             ∙ ap (λ (l : List ℕ). getD l (k - length c) 0) (drop-append-seam c _)
             ∙ getD-zeros (16 - length c) (k - length c);
+        options = omega (arith, options-part m short cells, overlay-below (m .plain .settings .mouseLock));
       }
 
-  pub body-tidy : IsBody s → Tidy s
-  body-tidy e = subst Tidy (sym e) view-tidy
+  pub state-tidy : IsState s → Tidy s
+  state-tidy e = subst Tidy (sym e) view-tidy
+
+  -- an image's body is the front of the bytes
+  pub body-front : IsState s → take 60 s ≡ body (view s)
+  body-front e = ap (take 60) e ∙ take-body (view s) short cells

@@ -24,12 +24,12 @@ use Rattle.machine.specs.Kept.{Kept}
 use Rattle.machine.specs.Changed.{Changed, KeptChange}
 use Rattle.machine.proofs.Laws.View as stores
 use Rattle.machine.proofs.Laws.View.{cleared, set-dropped}
-use Rattle.machine.proofs.Laws.Body.{Tidy, tidy-body, body-tidy}
+use Rattle.machine.proofs.Laws.Body.{Tidy, tidy-state, state-tidy}
 
 -- ---- Changed
 pub changed : {rule : Machine → Machine} {s s′ : List ℕ} → length s ≡ stateLength → view s′ ≡ rule (view s) → (Tidy s → Tidy s′) → Changed rule s s′
 changed {s = s} {s′ = s′} long machine tidy =
-    record { machine = machine; bytes = λ e. tidy-body s′ (tidy (body-tidy s long e)) }
+    record { machine = machine; bytes = λ e. tidy-state s′ (tidy (state-tidy s long e)) }
 
 -- one after the other
 pub chain : {f g : Machine → Machine} {s t u : List ℕ} → Changed f s t → Changed g t u → Changed (λ m. g (f m)) s u
@@ -68,6 +68,7 @@ pub record Fits (i v : ℕ) : Type 0 where
   pub overlay : i ≡ 6 → v < 2
   pub size : i ≡ 10 → ⊥
   pub code : (k : ℕ) → k < 16 → i ≡ 12 + k → ⊥
+  pub options : i ≡ 60 → ⊥
 
 bound-set : (s : List ℕ) (i v j b : ℕ) → (i ≡ j → v < b) → getD s j 0 < b → getD (set s i v) j 0 < b
 bound-set [] i v j b new old = old
@@ -86,6 +87,7 @@ tidy-set {i} {v} {s} f t =
       overlay = bound-set s i v 6 2 (f .overlay) (t .overlay);
       size = rw size (t .size);
       rest = λ k low high. getD-set-other s i (12 + k) v 0 (λ e. f .code k high (sym e)) ∙ t .rest k (omega (arith, size)) high;
+      options = bound-set s i v 60 2 (λ e. absurd (f .options e)) (t .options);
     }
 
 -- the bytes of which every value stands for something
@@ -104,19 +106,40 @@ fits-free i passed =
       overlay = λ e. absurd (other 6 refl e);
       size = other 10 refl;
       code = λ k h e. absurd (omega (arith, ltb-true i 12 (and-true (unpadded i) (ltb i 12) passed .1)));
+      options = other 60 refl;
     }
 
-pub fits-cell : {v : ℕ} (k : ℕ) → Fits (28 + k) v
-fits-cell k = record { flags = λ e. omega arith; latches = λ e. omega arith; overlay = λ e. omega arith; size = λ e. omega arith; code = λ j h e. omega arith }
+pub fits-cell : {v : ℕ} (k : ℕ) → k < 32 → Fits (28 + k) v
+fits-cell k inside =
+    record {
+      flags = λ e. omega arith;
+      latches = λ e. omega arith;
+      overlay = λ e. omega arith;
+      size = λ e. omega arith;
+      code = λ j h e. omega arith;
+      options = λ e. omega arith;
+    }
+
+-- the bytes before the code's length of which not every value does
+fits-early : {i v : ℕ} → i < 10 → (i ≡ 1 → v < 128) → (i ≡ 3 → v < 4) → (i ≡ 6 → v < 2) → Fits i v
+fits-early early flags latches overlay =
+    record {
+      flags = flags;
+      latches = latches;
+      overlay = overlay;
+      size = λ e. omega arith;
+      code = λ k h e. omega arith;
+      options = λ e. omega arith;
+    }
 
 fits-flags : {v : ℕ} → v < 128 → Fits 1 v
-fits-flags h = record { flags = λ e. h; latches = λ e. omega arith; overlay = λ e. omega arith; size = λ e. omega arith; code = λ j k e. omega arith }
+fits-flags h = fits-early (omega arith) (λ e. h) (λ e. omega arith) (λ e. omega arith)
 
 fits-latches : {v : ℕ} → v < 4 → Fits 3 v
-fits-latches h = record { flags = λ e. omega arith; latches = λ e. h; overlay = λ e. omega arith; size = λ e. omega arith; code = λ j k e. omega arith }
+fits-latches h = fits-early (omega arith) (λ e. omega arith) (λ e. h) (λ e. omega arith)
 
 fits-overlay : {v : ℕ} → v < 2 → Fits 6 v
-fits-overlay h = record { flags = λ e. omega arith; latches = λ e. omega arith; overlay = λ e. h; size = λ e. omega arith; code = λ j k e. omega arith }
+fits-overlay h = fits-early (omega arith) (λ e. omega arith) (λ e. omega arith) (λ e. h)
 
 -- ---- bytes of which every value stands for something
 module _ {s : List ℕ} (long : length s ≡ stateLength) where
@@ -135,7 +158,7 @@ module _ {s : List ℕ} (long : length s ≡ stateLength) where
   stored-position {k} = changed long (stores.set-position s long k) (tidy-set (fits-free 11 refl))
 
   pub stored-cell : {k v : ℕ} → k < 32 → Changed (lift (λ p. withRam p (set (p .ram) k v))) s (set s (28 + k) v)
-  stored-cell {k} {v} h = changed long (stores.set-cell s long k v h) (tidy-set (fits-cell k))
+  stored-cell {k} {v} h = changed long (stores.set-cell s long k v h) (tidy-set (fits-cell k h))
 
   pub stored-none : {k v : ℕ} → 32 ≤ k → Changed (lift (λ p. withRam p (set (p .ram) k v))) s s
   stored-none {k} {v} h = untouched (stores.set-none s long k v h)
@@ -218,6 +241,7 @@ module _ {s : List ℕ} (long : length s ≡ stateLength) where
         overlay = rw (later 6 (λ e. omega arith) (λ e. omega arith)) (t .overlay);
         size = rw size (omega arith);
         rest = λ k low high. later (12 + k) (λ e. omega (arith, size, low)) (λ e. omega arith) ∙ t .rest k (omega (arith, size, low)) high;
+        options = rw (later 60 (λ e. omega arith) (λ e. omega arith)) (t .options);
       })
 
 -- dropped: its sixteen bytes are 0
@@ -247,14 +271,15 @@ module _ (s : List ℕ) where
       changed long (set-dropped s long)
       (λ t.
       let long′ : length (cleared 16 s) ≡ stateLength = length-cleared 16 ∙ long in
-      let later : (j : ℕ) → j < 10 → at (set (cleared 16 s) 10 0) j ≡ at s j =
-      λ j h. getD-set-other (cleared 16 s) 10 j 0 0 (λ e. omega arith) ∙ cleared-other 16 j (λ k low e. omega arith) in
+      let later : (j : ℕ) → (j ≡ 10 → ⊥) → ((k : ℕ) → k < 16 → j ≡ 12 + k → ⊥) → at (set (cleared 16 s) 10 0) j ≡ at s j =
+      λ j a b. getD-set-other (cleared 16 s) 10 j 0 0 a ∙ cleared-other 16 j b in
       record {
         long = length-set (cleared 16 s) 10 0 ∙ long′;
-        flags = rw (later 1 (omega arith)) (t .flags);
-        latches = rw (later 3 (omega arith)) (t .latches);
-        overlay = rw (later 6 (omega arith)) (t .overlay);
+        flags = rw (later 1 (λ e. omega arith) (λ k h e. omega arith)) (t .flags);
+        latches = rw (later 3 (λ e. omega arith) (λ k h e. omega arith)) (t .latches);
+        overlay = rw (later 6 (λ e. omega arith) (λ k h e. omega arith)) (t .overlay);
         size = rw (getD-set-same (cleared 16 s) 10 0 0 (omega (arith, long′))) (omega arith);
         rest = λ k low high.
             getD-set-other (cleared 16 s) 10 (12 + k) 0 0 (λ e. omega arith) ∙ cleared-zero 16 k (omega arith) high;
+        options = rw (later 60 (λ e. omega arith) (λ k h e. omega arith)) (t .options);
       })

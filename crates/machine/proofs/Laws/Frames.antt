@@ -9,7 +9,7 @@ use lib.ListN.{length, take, drop, getD}
 use borrow.Author.Tests.{eq-eqb, ne-eqb}
 use Rattle.translation.specs.ScanCodes.{Translation, translate, raw, builtIn}
 use Rattle.machine.specs.State.{Public, Machine, lift}
-use Rattle.machine.specs.Lines.{inhibited, translates, put, putMouse}
+use Rattle.machine.specs.Lines.{inhibited, mouseInhibited, translates, put, putMouse}
 use Rattle.machine.specs.Frames.{errorsSet, positioned, keyError, ignored, matches, completes, unlocked, advanced, try}
 use Rattle.machine.specs.Frames.{keyedByte, translated}
 use Rattle.machine.specs.Frames.{mousePut, idle, timedOut}
@@ -83,14 +83,14 @@ module _ (p : Public) (b : ℕ) {t : Translation} {translating shut : Bool} (isO
   translated-off h made = made ∙ simp (simp (isOn, isShut) at h)
 
 -- ---- mousePut
-module _ (m : Machine) (b : ℕ) {shut : Bool} (isShut : shut ≡ m .plain .locked) where
-  pub mousePut-locked : shut ≡ true → m ≡ lift (mousePut b) m
+module _ (m : Machine) (b : ℕ) {shut off : Bool} (isShut : shut ≡ m .plain .locked) (isOff : off ≡ mouseInhibited (m .plain)) where
+  pub mousePut-off : (shut || off) ≡ true → m ≡ lift (mousePut b) m
   unfolding mousePut
-  mousePut-locked h = simp (sym isShut ∙ h)
+  mousePut-off h = simp (simp (isShut, isOff) at h)
 
-  pub mousePut-free : shut ≡ false → lift (putMouse b) m ≡ lift (mousePut b) m
+  pub mousePut-on : (shut || off) ≡ false → lift (putMouse b) m ≡ lift (mousePut b) m
   unfolding mousePut
-  mousePut-free h = simp (sym isShut ∙ h)
+  mousePut-on h = simp (simp (isShut, isOff) at h)
 
 -- ---- timedOut
 pub timedOut-mouse : (m : Machine) → m .plain .sending .to ≡ 2 → lift (putMouse 0xFE) (lift (errorsSet true false) (lift idle m)) ≡ lift timedOut m

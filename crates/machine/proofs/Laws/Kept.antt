@@ -8,6 +8,7 @@ use lib.ListN.{getD}
 use borrow.Author.Tests.{eqb-true}
 use Rattle.translation.specs.Frames.{check, sound}
 use Rattle.translation.proofs.Frame.{check-sound}
+use Rattle.machine.specs.Settings.{Settings}
 use Rattle.machine.specs.State.{Machine, fresh, lift}
 use Rattle.machine.specs.DataPort.{writeData}
 use Rattle.machine.specs.Commands.{writeCommand}
@@ -23,22 +24,23 @@ use Rattle.machine.proofs.Laws.KeptCommands.{writeCommand-kept}
 use Rattle.machine.proofs.Laws.KeptFrames.{keyboardFrame-kept, mouseFrame-kept, taken-kept, timedOut-kept, pinned-kept}
 
 -- ---- fresh
-fresh-ram-kept : RamKept (fresh .plain .ram)
-unfolding fresh
-fresh-ram-kept = (refl, cells, omega arith)
-  where
-    cells : (k : ℕ) → getD (fresh .plain .ram) k 0 < 256
-    cells zero = omega arith
-    cells (suc k) = omega (arith, getD-zeros 31 k)
+module _ (x : Settings) where
+  fresh-ram-kept : RamKept (fresh x .plain .ram)
+  unfolding fresh
+  fresh-ram-kept = (refl, cells, omega arith)
+    where
+      cells : (k : ℕ) → getD (fresh x .plain .ram) k 0 < 256
+      cells zero = omega arith
+      cells (suc k) = omega (arith, getD-zeros 31 k)
 
-pub fresh-kept : Kept fresh
-unfolding fresh
-fresh-kept =
-    grouped-kept fresh (omega arith, λ e. e) (omega arith, omega arith, λ _. refl, omega arith, λ _. refl) (omega arith)
-    (omega arith, omega arith, λ _. refl)
-    fresh-ram-kept
-    (omega arith, omega arith)
-    (λ l. not-both l refl, λ _. refl)
+  pub fresh-kept : Kept (fresh x)
+  unfolding fresh
+  fresh-kept =
+      grouped-kept (fresh x) (omega arith, λ e. e) (omega arith, omega arith, λ _. refl, omega arith, λ _. refl) (omega arith)
+      (omega arith, omega arith, λ _. refl)
+      fresh-ram-kept
+      (omega arith, omega arith)
+      (λ l. not-both l refl, λ _. refl)
 
 -- ---- emptied, accept, step
 pub emptied-kept : {m : Machine} → Kept m → Kept (lift emptied m)

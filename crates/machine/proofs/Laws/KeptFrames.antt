@@ -11,7 +11,7 @@ use Rattle.translation.specs.Frames.{Check, sound, parity, broken}
 use Rattle.translation.specs.ScanCodes.{Translation, Yielded, nothing, byte, raw}
 use Rattle.translation.proofs.ScanCodes.{translate-builtIn-below}
 use Rattle.machine.specs.State.{Public, Machine, lift}
-use Rattle.machine.specs.Lines.{inhibited, translates}
+use Rattle.machine.specs.Lines.{inhibited, mouseInhibited, translates}
 use Rattle.machine.specs.Frames.{errorsSet, positioned, keyError, damagedKey, ignored, matches, completes, opened}
 use Rattle.machine.specs.Frames.{unlocked, advanced, try, keyed, keyedByte, translated, soundKey, keyboardFrame}
 use Rattle.machine.specs.Frames.{mousePut, mouseFrame, idle, taken, timedOut, pinned}
@@ -83,7 +83,8 @@ keyboardFrame-kept k broken small = damagedKey-kept k true false
 -- ---- mousePut, mouseFrame
 pub mousePut-kept : {m : Machine} → Kept m → (b : ℕ) → b < 256 → Kept (lift (mousePut b) m)
 unfolding mousePut
-mousePut-kept {m} k b small = cond-both (KeptWith (m .secret)) (m .plain .locked) k (putMouse-kept k b small)
+mousePut-kept {m} k b small =
+    cond-both (KeptWith (m .secret)) (m .plain .locked || mouseInhibited (m .plain)) k (putMouse-kept k b small)
 
 pub mouseFrame-kept : {m : Machine} → Kept m → (c : Check) → ((b : ℕ) → c ≡ sound b → b < 256) → Kept (lift (mouseFrame c) m)
 unfolding mouseFrame

@@ -60,3 +60,8 @@ below-take m (suc n) (x ∷ l) pos h (suc k) = below-take m n l pos (λ j. h (su
 
 pub below-drop : (m n : ℕ) (l : List ℕ) → Below m l → Below m (drop n l)
 below-drop m n l h k = rw getD-drop (h (n + k))
+
+pub below-append : (m : ℕ) (xs ys : List ℕ) → Below m xs → Below m ys → Below m (xs ++ ys)
+below-append m [] ys h j k = j k
+below-append m (x ∷ xs) ys h j zero = h zero
+below-append m (x ∷ xs) ys h j (suc k) = below-append m xs ys (λ i. h (suc i)) j k

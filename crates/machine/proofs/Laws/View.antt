@@ -73,6 +73,7 @@ flagged x m =
         breaks = x .breaks;
         locked = x .locked;
         ram = m .plain .ram;
+        settings = m .plain .settings;
       };
       secret = m .secret;
     }
@@ -95,15 +96,15 @@ pub ram-of : (s : List ℕ) → length s ≡ stateLength → getD s 28 0 ∷ tak
 ram-of s long = ap (take 32) (sym (drop-cons s 28 0 (omega arith)))
 
 -- a store in the RAM leaves all else
-set-beside : (s : List ℕ) → length s ≡ stateLength → (k v : ℕ) (cells : List ℕ) →
+set-beside : (s : List ℕ) → length s ≡ stateLength → (k v : ℕ) → k < 32 → (cells : List ℕ) →
     lift (λ p. withRam p cells) (view (set s (28 + k) v)) ≡ lift (λ p. withRam p cells) (view s)
-set-beside s long k v cells =
+set-beside s long k v h cells =
     let far : 28 + k ≡ 12 + (16 + k) = omega arith in
     let seen : List ℕ → Machine = λ t. lift (λ p. withRam p cells) (view t) in
     let rest = drop 12 s in
     front 12 (λ t. seen (set t (28 + k) v) ≡ seen t) s (omega arith)
     (ap (λ (i : ℕ). seen (set (shown s) i v)) far ∙ ap seen (set-later (listed 0 12 s) rest (16 + k) v)
-    ∙ rw (take-set-le 16 rest (16 + k) v (omega arith)) refl)
+    ∙ rw (take-set-le 16 rest (16 + k) v (omega arith), getD-set-other rest (16 + k) 48 v 0 (λ e. omega arith)) refl)
 
 -- a cell of the RAM; cell 0 is the mode byte
 pub set-cell : (s : List ℕ) → length s ≡ stateLength → (k v : ℕ) → k < 32 → view (set s (28 + k) v) ≡ lift (λ p. withRam p (set (p .ram) k v)) (view s)
@@ -113,7 +114,7 @@ set-cell s long k v h =
     ram-of (set s (28 + k) v) (length-set s (28 + k) v ∙ long) ∙ ap (take 32) (drop-set-add 28 s k v)
     ∙ take-set-lt 32 (drop 28 s) k v h ∙ ap (λ (xs : List ℕ). set xs k v) (sym (ram-of s long))
     in
-    ap (λ (xs : List ℕ). lift (λ p. withRam p xs) (view (set s (28 + k) v))) ram ∙ set-beside s long k v cells
+    ap (λ (xs : List ℕ). lift (λ p. withRam p xs) (view (set s (28 + k) v))) ram ∙ set-beside s long k v h cells
 
 pub set-mode : (s : List ℕ) → length s ≡ stateLength → (v : ℕ) → view (set s 28 v) ≡ lift (withMode v) (view s)
 set-mode s long v = set-cell s long 0 v (omega arith)
@@ -124,14 +125,15 @@ pub set-appended : (s : List ℕ) → length s ≡ stateLength → (v : ℕ) →
 set-appended s long v =
     let rest = drop 12 s in
     let n = getD s 10 0 in
-    let others : n < 16 → 16 ≡ n → ⊥ = λ h e. omega arith in
+    let others : n < 16 → (j : ℕ) → 16 ≤ j → j ≡ n → ⊥ = λ h j far e. omega arith in
     front 12 (λ s. getD s 10 0 < 16 → view (set (set s (12 + getD s 10 0) v) 10 (getD s 10 0 + 1)) ≡ appended v (view s)) s (omega arith)
     (λ h.
     ap (λ (t : List ℕ). view (set t 10 (n + 1))) (set-later (listed 0 12 s) rest n v)
     ∙ rw (
       take-set-lt 16 rest n v h,
       drop-set-lt 17 rest n v (omega arith),
-      getD-set-other rest n 16 v 0 (others h),
+      getD-set-other rest n 16 v 0 (others h 16 (omega arith)),
+      getD-set-other rest n 48 v 0 (others h 48 (omega arith)),
       code-append n (take 16 rest) (code-long s long) h v,
     ) refl)
 

@@ -7,6 +7,7 @@ use native.Mathlib.Omega.{arith}
 use lib.ListN.{length, take, drop, length-append}
 use lib.Dec.{eqb, leb, ltb}
 use borrow.Author.Tests.{le-leb, lt-leb, le-ltb, ltb-false}
+use Rattle.machine.specs.Settings.{Settings}
 use Rattle.machine.specs.State.{fresh}
 use Rattle.machine.specs.Run.{events, answers, filled, lengthRefusal, listRefusal}
 use Rattle.machine.proofs.Laws.Cond.{cond-both, or-false}
@@ -44,30 +45,30 @@ pub length-header : length header ≡ 28
 unfolding header
 length-header = refl
 
-module _ (list : List ℕ) (a : refused list ≡ false) where
-  pub answered-accepted : answered list ≡ answers fresh (events list)
+module _ (x : Settings) (list : List ℕ) (a : refused list ≡ false) where
+  pub answered-accepted : answered x list ≡ answers (fresh x) (events list)
   unfolding answered
   answered-accepted = simp a
 
-  pub length-answered : length (answered list) ≡ 9 * (length list / 3)
+  pub length-answered : length (answered x list) ≡ 9 * (length list / 3)
   length-answered =
-      ap length answered-accepted ∙ length-answers fresh (events list) ∙ ap (λ (n : ℕ). 9 * n) (length-events list)
+      ap length answered-accepted ∙ length-answers (fresh x) (events list) ∙ ap (λ (n : ℕ). 9 * n) (length-events list)
 
-  pub page-accepted : page list ≡ header ++ lines (length list / 3) (answered list)
+  pub page-accepted : page x list ≡ header ++ lines (length list / 3) (answered x list)
   unfolding page
   page-accepted = simp (a, length-events)
 
-  pub length-page : length (page list) ≡ 28 + 27 * (length list / 3)
+  pub length-page : length (page x list) ≡ 28 + 27 * (length list / 3)
   length-page =
-      let long = length-lines (length list / 3) (answered list) (omega (arith, length-answered)) in
-      ap length page-accepted ∙ length-append header (lines (length list / 3) (answered list)) ∙ omega (arith, length-header)
+      let long = length-lines (length list / 3) (answered x list) (omega (arith, length-answered)) in
+      ap length page-accepted ∙ length-append header (lines (length list / 3) (answered x list)) ∙ omega (arith, length-header)
 
-module _ (list : List ℕ) (a : refused list ≡ true) where
-  pub answered-refused : answered list ≡ []
+module _ (x : Settings) (list : List ℕ) (a : refused list ≡ true) where
+  pub answered-refused : answered x list ≡ []
   unfolding answered
   answered-refused = simp a
 
-  pub page-refused : page list ≡ refusedText
+  pub page-refused : page x list ≡ refusedText
   unfolding page
   page-refused = simp a
 
@@ -87,87 +88,87 @@ and-false-right : (t : Bool) → (t && false) ≡ false
 and-false-right true = refl
 and-false-right false = refl
 
-module _ (list space out : List ℕ) where
-  room-refused : refused list ≡ true → room list space out ≡ leb (length refusedText) (length out)
+module _ (x : Settings) (list space out : List ℕ) where
+  room-refused : refused list ≡ true → room x list space out ≡ leb (length refusedText) (length out)
   unfolding room
   room-refused a =
       let none : leb 0 (length space) ≡ true = le-leb 0 (length space) (omega arith) in
-      simp (answered-refused list a, page-refused list a, none)
+      simp (answered-refused x list a, page-refused x list a, none)
 
   room-both : refused list ≡ false → 9 * (length list / 3) ≤ length space → 28 + 27 * (length list / 3) ≤ length out →
-      room list space out ≡ true
+      room x list space out ≡ true
   unfolding room
   room-both a many long =
       simp (
-        length-answered list a,
-        length-page list a,
+        length-answered x list a,
+        length-page x list a,
         le-leb (9 * (length list / 3)) (length space) many,
         le-leb (28 + 27 * (length list / 3)) (length out) long,
       )
 
-  room-few-answers : refused list ≡ false → length space < 9 * (length list / 3) → room list space out ≡ false
+  room-few-answers : refused list ≡ false → length space < 9 * (length list / 3) → room x list space out ≡ false
   unfolding room
-  room-few-answers a few = simp (length-answered list a, lt-leb (9 * (length list / 3)) (length space) few)
+  room-few-answers a few = simp (length-answered x list a, lt-leb (9 * (length list / 3)) (length space) few)
 
-  room-short-out : refused list ≡ false → length out < 28 + 27 * (length list / 3) → room list space out ≡ false
+  room-short-out : refused list ≡ false → length out < 28 + 27 * (length list / 3) → room x list space out ≡ false
   unfolding room
   room-short-out a short =
-      simp (length-page list a, lt-leb (28 + 27 * (length list / 3)) (length out) short, and-false-right)
+      simp (length-page x list a, lt-leb (28 + 27 * (length list / 3)) (length out) short, and-false-right)
 
 -- ---- Printed
 split : {A : Type 0} (b : Bool) → (b ≡ true → A) → (b ≡ false → A) → A
 split true one other = one refl
 split false one other = other refl
 
-module _ (list space out : List ℕ) {isRefused : Bool} (same : isRefused ≡ refused list) where
-  pub printed-refused : {r : ℕ} {out′ : List ℕ} → isRefused ≡ true → Written refusedText out r out′ → Printed list space out r space out′
+module _ (x : Settings) (list space out : List ℕ) {isRefused : Bool} (same : isRefused ≡ refused list) where
+  pub printed-refused : {r : ℕ} {out′ : List ℕ} → isRefused ≡ true → Written refusedText out r out′ → Printed x list space out r space out′
   printed-refused stands w =
       let a = sym same ∙ stands in
       record {
-        count = simp (room-refused list space out a, page-refused list a) (w .count);
-        answers = rw (answered-refused list a) (sym (cond-both (λ (xs : List ℕ). xs ≡ space) (room list space out) refl refl));
-        text = simp (room-refused list space out a, page-refused list a) (w .text);
+        count = simp (room-refused x list space out a, page-refused x list a) (w .count);
+        answers = rw (answered-refused x list a) (sym (cond-both (λ (xs : List ℕ). xs ≡ space) (room x list space out) refl refl));
+        text = simp (room-refused x list space out a, page-refused x list a) (w .text);
       }
 
-  printed-none : room list space out ≡ false → Printed list space out 0 space out
+  printed-none : room x list space out ≡ false → Printed x list space out 0 space out
   printed-none small = record { count = simp small; answers = simp small; text = simp small }
 
-  pub printed-few : isRefused ≡ false → length space < 9 * (length list / 3) → Printed list space out 0 space out
-  printed-few free few = printed-none (room-few-answers list space out (sym same ∙ free) few)
+  pub printed-few : isRefused ≡ false → length space < 9 * (length list / 3) → Printed x list space out 0 space out
+  printed-few free few = printed-none (room-few-answers x list space out (sym same ∙ free) few)
 
-  pub printed-short : isRefused ≡ false → length out < 28 + 27 * (length list / 3) → Printed list space out 0 space out
-  printed-short free short = printed-none (room-short-out list space out (sym same ∙ free) short)
+  pub printed-short : isRefused ≡ false → length out < 28 + 27 * (length list / 3) → Printed x list space out 0 space out
+  printed-short free short = printed-none (room-short-out x list space out (sym same ∙ free) short)
 
   pub printed-all : {n r : ℕ} {space′ out′ : List ℕ} → isRefused ≡ false → 9 * (length list / 3) ≤ length space → 28 + 27 * (length list / 3) ≤ length out →
-      FreshRun list space space′ n →
+      FreshRun x list space space′ n →
       (r ≡ 28 + 27 * (length list / 3)) × (out′ ≡ over (header ++ lines (length list / 3) space′) out) →
-      Printed list space out r space′ out′
+      Printed x list space out r space′ out′
   unfolding filled
   printed-all {space′ = space′} free many long ran (count, text) =
       let a = sym same ∙ free in
-      let large = room-both list space out a many long in
-      let all = answered-accepted list a in
-      let nine = length-answered list a in
-      let bytes : space′ ≡ over (answered list) space =
+      let large = room-both x list space out a many long in
+      let all = answered-accepted x list a in
+      let nine = length-answered x list a in
+      let bytes : space′ ≡ over (answered x list) space =
       ran .answered (listRefusal-accepted list space a many) ∙ rw (length-events list, ← nine, ← all) refl in
-      let printed : lines (length list / 3) space′ ≡ lines (length list / 3) (answered list) =
-      ap (lines (length list / 3)) bytes ∙ lines-append (length list / 3) (answered list) (drop (length (answered list)) space) (omega arith) in
+      let printed : lines (length list / 3) space′ ≡ lines (length list / 3) (answered x list) =
+      ap (lines (length list / 3)) bytes ∙ lines-append (length list / 3) (answered x list) (drop (length (answered x list)) space) (omega arith) in
       record {
-        count = simp large (count ∙ sym (length-page list a));
+        count = simp large (count ∙ sym (length-page x list a));
         answers = simp large bytes;
         text =
             simp large
             (text ∙ ap (λ (xs : List ℕ). over (header ++ xs) out) printed
-            ∙ ap (λ (xs : List ℕ). over xs out) (sym (page-accepted list a)));
+            ∙ ap (λ (xs : List ℕ). over xs out) (sym (page-accepted x list a)));
       }
 
 -- the text lies within its buffer
-pub printed-within : {list space out : List ℕ} {r : ℕ} {space′ out′ : List ℕ} → Printed list space out r space′ out′ → r ≤ length out′
-printed-within {list} {space} {out} {r} {space′} {out′} p = split (room list space out)
+pub printed-within : {x : Settings} {list space out : List ℕ} {r : ℕ} {space′ out′ : List ℕ} → Printed x list space out r space′ out′ → r ≤ length out′
+printed-within {x} {list} {space} {out} {r} {space′} {out′} p = split (room x list space out)
     (λ large.
-    let count : r ≡ length (page list) = simp large at (p .count) in
-    let text : out′ ≡ over (page list) out = simp large at (p .text) in
-    omega (arith, ap length text ∙ length-append (page list) (drop (length (page list)) out)))
+    let count : r ≡ length (page x list) = simp large at (p .count) in
+    let text : out′ ≡ over (page x list) out = simp large at (p .text) in
+    omega (arith, ap length text ∙ length-append (page x list) (drop (length (page x list)) out)))
     (λ small.
     let count : r ≡ 0 = simp small at (p .count) in
     omega arith)

@@ -1,6 +1,6 @@
 //! Prints from the model what the proved program `controller_tests` has to print.
 
-use model::{ANSWER_SIZE, EVENT_SIZE, run};
+use model::{ANSWER_SIZE, EVENT_SIZE, Settings, run};
 
 /// The cases are a file of that program, written so that it is Rust as well.
 mod cases {
@@ -51,7 +51,7 @@ fn print_written(written: &[u8]) {
 pub fn sized(name: &[u8], events: &[u8], bytes: usize, space: usize) {
     let list: Vec<u8> = parse(events).into_iter().cycle().take(bytes).collect();
     let mut answers = [MARK; BUFFER_SIZE];
-    let refusal = run(&list, &mut answers[..space]);
+    let refusal = run(Settings::ORDINARY, &list, &mut answers[..space]);
     let accepted = if refusal == 0 { bytes / EVENT_SIZE } else { 0 };
     let (written, rest) = answers.split_at(accepted * ANSWER_SIZE);
     let kept = rest.iter().all(|&byte| byte == MARK);
@@ -64,11 +64,20 @@ pub fn sized(name: &[u8], events: &[u8], bytes: usize, space: usize) {
     }
 }
 
-/// A few events, and each answer.
+/// A few events under the ordinary settings, and each answer.
 pub fn case(name: &[u8], events: &[u8]) {
+    case_under(Settings::ORDINARY, name, events);
+}
+
+/// The same with the mouse lock on.
+pub fn locked_case(name: &[u8], events: &[u8]) {
+    case_under(Settings { mouse_lock: true }, name, events);
+}
+
+fn case_under(settings: Settings, name: &[u8], events: &[u8]) {
     let list = parse(events);
     let mut answers = vec![MARK; list.len() / EVENT_SIZE * ANSWER_SIZE];
-    assert_eq!(run(&list, &mut answers), 0);
+    assert_eq!(run(settings, &list, &mut answers), 0);
     println!("{}", text(name));
     for answer in answers.chunks_exact(ANSWER_SIZE) {
         println!("{}", hexadecimal(answer));
@@ -82,4 +91,5 @@ fn main() {
     cases::loads();
     cases::lock();
     cases::frames();
+    cases::mouse_lock();
 }

@@ -1,6 +1,6 @@
 //! Prints what saves and loads at their edges give, from the model: a name, the refusal, and the sum of the bytes that came of it.
 
-use model::{Controller, IMAGE_SIZE, find, load, save};
+use model::{Controller, IMAGE_SIZE, Settings, find, load, save};
 
 const FILL: u8 = 0xEE;
 
@@ -55,7 +55,7 @@ const TRIED: [[u8; 4]; 43] = [
 
 /// A body with something in each of its parts, and a lock code of `n` bytes.
 fn sample(n: u8) -> Image {
-    let mut image = save(&Controller::fresh());
+    let mut image = save(&Controller::fresh(Settings::ORDINARY));
     image[..60].fill(0);
     image[0] = 0x41;
     image[1] = 0b0011_0101;
@@ -99,7 +99,7 @@ fn try_save(room: usize) {
 fn try_load(name: &str, bytes: &[u8]) {
     let (refusal, state) = match load(bytes) {
         Ok(state) => (0, state),
-        Err(refusal) => (refusal, Controller::fresh()),
+        Err(refusal) => (refusal, Controller::fresh(Settings::ORDINARY)),
     };
     println!("{name} {refusal} {}", added(&save(&state)));
 }

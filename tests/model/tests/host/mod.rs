@@ -1,7 +1,7 @@
 //! A host that drives the model; every event must be accepted unless asked.
 #![allow(dead_code)]
 
-use model::{Controller, frame};
+use model::{Controller, Settings, frame};
 
 pub struct Host {
     pub state: Controller,
@@ -21,15 +21,24 @@ pub struct Answer {
 }
 
 impl Host {
+    /// Fresh, with the ordinary settings.
     pub fn fresh() -> Host {
+        Host::started(Settings::ORDINARY)
+    }
+
+    pub fn started(settings: Settings) -> Host {
         Host {
-            state: Controller::fresh(),
+            state: Controller::fresh(settings),
         }
     }
 
     /// Fresh, with the keyboard and the mouse switched on.
     pub fn ready() -> Host {
-        let mut host = Host::fresh();
+        Host::ready_under(Settings::ORDINARY)
+    }
+
+    pub fn ready_under(settings: Settings) -> Host {
+        let mut host = Host::started(settings);
         host.command(0xAE);
         host.command(0xA8);
         host
@@ -38,10 +47,15 @@ impl Host {
     /// Ready, with a code loaded and the lock closed.
     pub fn locked_with(code: &[u8]) -> Host {
         let mut host = Host::ready();
-        host.load(code);
-        host.command(0xA6);
-        assert!(host.state.locked);
+        host.lock(code);
         host
+    }
+
+    /// Loads a code and closes the lock.
+    pub fn lock(&mut self, code: &[u8]) {
+        self.load(code);
+        self.command(0xA6);
+        assert!(self.state.locked);
     }
 
     pub fn event(&mut self, kind: u8, value: u16) -> Answer {

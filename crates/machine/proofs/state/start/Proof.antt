@@ -1,10 +1,7 @@
--- `machine::state::start` meets its contract. The bytes are those of the fresh machine, once the definitions are opened.
+-- `machine::state::start` meets its contract. The bytes stored are those of the fresh machine.
 -- Assumes nothing.
 use borrow.Author.Needs.{needs}
-use mathlib.Core.Path.{refl}
-use Rattle.machine.specs.State.{fresh}
-use Rattle.machine.specs.View.{body}
-use Rattle.machine.specs.Lines.{nibble}
+use Rattle.machine.proofs.Laws.Body.{fresh-started}
 use Rattle.machine.proofs.state.start.Statement.{statement}
 use Rattle.machine.proofs.state.start.Tie as tie
 
@@ -17,9 +14,22 @@ array-write-s-2 c = search needs
 array-write-s-3 : tie.Need-array-write-s-3
 array-write-s-3 c = search needs
 
+options-of-requires : tie.Need-options-of-requires
+options-of-requires c κs = search needs
+
+array-write-s-4 : tie.Need-array-write-s-4
+array-write-s-4 c = search needs
+
 returns : tie.Need-returns
-unfolding fresh body nibble
-returns c = (refl, refl)
+returns c = fresh-started _ (c .options-of .ensures)
 
 pub start-spec : {M : Type 1} → statement M
-start-spec = tie.close (tie.spec array-write-s array-write-s-2 array-write-s-3 returns)
+start-spec =
+    tie.close
+    (tie.spec
+    array-write-s
+    array-write-s-2
+    array-write-s-3
+    options-of-requires
+    array-write-s-4
+    returns)

@@ -1,10 +1,10 @@
--- `controller_tests::case` is safe and ends: at most 96 bytes were parsed, so that there is room for their answers.
+-- `controller_tests::started_case` is safe and ends: at most 96 bytes were parsed, so that there is room for their answers.
 -- Assumes nothing.
 use borrow.Author.Needs.{needs}
 use native.Mathlib.Omega.{arith}
 use lib.ListN.{length-take}
-use Rattle.controller_tests.proofs.case.Statement.{statement}
-use Rattle.controller_tests.proofs.case.Tie as tie
+use Rattle.controller_tests.proofs.started_case.Statement.{statement}
+use Rattle.controller_tests.proofs.started_case.Tie as tie
 
 slice-aggregate-parse : tie.Need-slice-aggregate-parse
 slice-aggregate-parse c = search needs
@@ -48,8 +48,8 @@ put-answers-requires c κs = search needs
 returns : tie.Need-returns
 returns c = search needs
 
-pub case-spec : {M : Type 1} → statement M
-case-spec =
+pub started-case-spec : {M : Type 1} → statement M
+started-case-spec =
     tie.close
     (tie.spec
     slice-aggregate-parse

@@ -1,0 +1,21 @@
+-- `panel::live::calugnid_start` meets its contract. The start has the settings that the options name.
+-- Assumes nothing.
+use borrow.Author.Needs.{needs}
+use mathlib.Core.Path.{ap, _∙_}
+use Rattle.machine.specs.Settings.{Settings}
+use Rattle.machine.specs.State.{fresh}
+use Rattle.machine.specs.View.{stateOf}
+use Rattle.panel.proofs.live.calugnid_start.Statement.{statement}
+use Rattle.panel.proofs.live.calugnid_start.Tie as tie
+
+settings-of-requires : tie.Need-settings-of-requires
+settings-of-requires c κs = search needs
+
+start-requires : tie.Need-start-requires
+start-requires c κs = search needs
+
+returns : tie.Need-returns
+returns c = c .start .ensures .0 ∙ ap (λ (x : Settings). stateOf (fresh x)) (c .before .settings-of .ensures)
+
+pub calugnid-start-spec : {M : Type 1} → statement M
+calugnid-start-spec = tie.close (tie.spec settings-of-requires start-requires returns)
