@@ -2,23 +2,24 @@
 -- wherever it stands, and of every image that a load accepts. Assumes nothing.
 use mathlib.Core.Path.{_≡_, ap, ap₂, sym, subst, _∙_}
 use mathlib.Core.Bool.{true, false, not}
-use mathlib.Core.List.{List, [], _∷_, _++_}
-use Prim.Native.Nat.{ℕ, zero, suc, _+_, _-_, _≤_, _<_}
+use mathlib.Core.List.{List, _++_}
+use Prim.Native.Nat.{ℕ, suc, _+_, _-_, _≤_, _<_}
 use native.Mathlib.Omega.{arith}
-use lib.ListN.{length, getD, take, drop, length-take, length-drop, length-append}
-use lib.Seq.{take-append-seam, drop-append-seam, take-at, drop-at, getD-drop}
+use lib.ListN.{length, getD, take, drop, length-take, length-drop}
+use lib.Seq.{take-append-seam, drop-append-seam, getD-drop}
 use lib.Dec.{eqb}
 use borrow.Author.Tests.{ne-eqb, eqb-true, eqb-false, not-true}
-use Rattle.machine.specs.Settings.{Settings, ordinary}
-use Rattle.machine.specs.State.{Machine, fresh}
+use Rattle.machine.specs.Settings.{ordinary}
+use Rattle.machine.specs.State.{Public, Machine, fresh}
 use Rattle.machine.specs.Lines.{nibble}
 use Rattle.machine.specs.Kept.{Kept}
-use Rattle.machine.specs.View.{stateLength, body, optionsOf, beyond, stateOf, at, view, IsState}
+use Rattle.machine.specs.View.{stateLength, body, beyond, stateOf, at, view, IsState}
 use Rattle.machine.proofs.Laws.Lists.{Below, below-take, below-drop, below-append, length-part}
 use Rattle.machine.proofs.Laws.Bits.{flags-full, flags-mouse, flags-locked, flags-below, latches-below, overlay-below, eqb-nibble}
 use Rattle.machine.proofs.Laws.Code.{code-long, code-byte}
 use Rattle.machine.proofs.Laws.View.{ram-of}
 use Rattle.machine.proofs.Laws.Settings.{fresh-settings}
+use Rattle.machine.proofs.Laws.Body.{beyond-same, beyond-below, length-extended, take-extended, options-fit}
 use Rattle.machine.proofs.Laws.Body.{length-body, code-part, ram-part, view-state, Tidy, tidy-state, body-front}
 use Rattle.image.specs.Layout.{bodyLength, imageLength, sealed, image}
 use Rattle.image.specs.Find.{lastBytes, ends, found}
@@ -137,7 +138,8 @@ module _ (m : Machine) (k : Kept m) where
   resumed-body : m .plain .settings ≡ ordinary → view (stateFrom (body m)) ≡ m
   unfolding stateOf
   resumed-body plain =
-      ap (λ (x : Settings). view (body m ++ (optionsOf x ∷ []))) (fresh-settings ordinary ∙ sym plain) ∙ view-state m (k .code) (k .ram)
+      ap (λ (r : List ℕ). view (body m ++ r)) (beyond-same (fresh ordinary .plain) (m .plain) (fresh-settings ordinary ∙ sym plain))
+      ∙ view-state m (k .code) (k .ram)
 
   -- ---- its image behind other bytes
   module _ (front : List ℕ) where
@@ -165,58 +167,39 @@ module _ (m : Machine) (k : Kept m) where
           again = sym (lastBytes-append front (image m) imageLength length-image);
         }
 
--- ---- the state of a body
--- the bytes behind it
-beyond-below : (x : Settings) → Below 256 (beyond (fresh x .plain))
-beyond-below x zero = omega (arith, overlay-below (fresh x .plain .settings .mouseLock))
-beyond-below x (suc k) = omega arith
-
-module _ (b : List ℕ) (long : length b ≡ bodyLength) where
-  abbrev behind : List ℕ
-  behind = beyond (fresh ordinary .plain)
-
-  stateFrom-long : length (stateFrom b) ≡ stateLength
-  stateFrom-long = length-append b behind ∙ omega arith
-
-  take-stateFrom : take bodyLength (stateFrom b) ≡ b
-  take-stateFrom = take-at b behind bodyLength long
-
-  stateFrom-options : at (stateFrom b) 60 < 2
-  stateFrom-options =
-      let options : at (stateFrom b) 60 ≡ getD behind 0 0 =
-      sym (getD-drop 60 (stateFrom b) 0 0) ∙ ap (λ (l : List ℕ). getD l 0 0) (drop-at b behind 60 long) in
-      omega (arith, options, overlay-below (fresh ordinary .plain .settings .mouseLock))
-
-  stateFrom-rules : bodyKept b ≡ true → Rules (stateFrom b)
-  stateFrom-rules passed = bodyKept-rules (stateFrom b) (bodyKept-front b behind long ∙ passed)
-
 -- ---- an image that is accepted
 module _ (bytes : List ℕ) (z : loadRefusal bytes ≡ 0) where
   found-long : length (found bytes) ≡ bodyLength
   found-long = length-found bytes (accepted bytes z .0)
 
+  abbrev behind : Public
+  behind = fresh ordinary .plain
+
   abbrev made : List ℕ
   made = stateFrom (found bytes)
 
   made-long : length made ≡ stateLength
-  made-long = stateFrom-long (found bytes) found-long
+  made-long = length-extended (found bytes) found-long behind
+
+  made-options : at made 60 < 2
+  made-options = options-fit (found bytes) found-long behind
 
   made-rules : Rules made
-  made-rules = stateFrom-rules (found bytes) found-long (accepted bytes z .1)
+  made-rules = bodyKept-rules made (bodyKept-front (found bytes) (beyond behind) found-long ∙ accepted bytes z .1)
 
   -- the state that it makes is that of its machine
   pub found-isState : IsState made
-  found-isState = tidy-state made (rules-tidy made made-long made-rules (stateFrom-options (found bytes) found-long))
+  found-isState = tidy-state made (rules-tidy made made-long made-rules made-options)
 
   found-body-of : found bytes ≡ body (resumed bytes)
-  found-body-of = sym (take-stateFrom (found bytes) found-long) ∙ body-front made made-long found-isState
+  found-body-of = sym (take-extended (found bytes) found-long behind) ∙ body-front made made-long found-isState
 
   made-below : Below 256 bytes → Below 256 made
   made-below bound =
       let inside : Below 256 (found bytes) =
       subst (Below 256) (sym (found-body bytes (accepted bytes z .0)))
       (below-take 256 bodyLength (lastBytes imageLength bytes) (omega arith) (below-drop 256 (length bytes - 68) bytes bound)) in
-      below-append 256 (found bytes) _ inside (beyond-below ordinary)
+      below-append 256 (found bytes) (beyond behind) inside (beyond-below behind)
 
   pub accepted-restored : Below 256 bytes → Restored (resumed bytes) bytes
   unfolding image
@@ -226,7 +209,7 @@ module _ (bytes : List ℕ) (z : loadRefusal bytes ≡ 0) where
         accepted = z;
         body = found-body-of;
         machine = λ before. loaded-accepted before bytes z;
-        kept = view-kept made made-long made-rules (stateFrom-options (found bytes) found-long) (made-below bound);
+        kept = view-kept made made-long made-rules made-options (made-below bound);
         again =
             ap (sealed 1) (sym found-body-of ∙ found-body bytes ended)
             ∙ sym (lastBytes-sealed 1 bodyLength bytes (ends-sealed 1 bodyLength bytes ended) bound);
@@ -237,5 +220,5 @@ pub body-injective : (m n : Machine) → Kept m → Kept n → m .plain .setting
 unfolding stateOf
 body-injective m n k l same e =
     sym (view-state m (k .code) (k .ram))
-    ∙ ap₂ (λ (b : List ℕ) (x : Settings). view (b ++ (optionsOf x ∷ []))) e same
+    ∙ ap₂ (λ (b r : List ℕ). view (b ++ r)) e (beyond-same (m .plain) (n .plain) same)
     ∙ view-state n (l .code) (l .ram)

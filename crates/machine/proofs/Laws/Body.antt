@@ -7,11 +7,11 @@ use native.Mathlib.Omega.{arith}
 use lib.ListN.{length, getD, take, drop, set, replicate, length-append, length-replicate, length-take, length-drop, take-append-drop}
 use lib.Seq.{take-at, drop-at, take-all, take-append-seam, drop-append-seam, take-add, drop-cons, getD-take, getD-drop}
 use Rattle.machine.specs.Settings.{Settings, settingsOf}
-use Rattle.machine.specs.State.{Machine, fresh}
+use Rattle.machine.specs.State.{Public, Machine, fresh}
 use Rattle.machine.specs.Lines.{nibble}
 use Rattle.machine.specs.View.{stateLength, head, padded, body, optionsOf, beyond, stateOf, at, view, IsState}
 use Rattle.machine.proofs.Laws.Bounds.{getD-zeros}
-use Rattle.machine.proofs.Laws.Lists.{listed, take-listed, length-part}
+use Rattle.machine.proofs.Laws.Lists.{listed, take-listed, length-part, Below}
 use Rattle.machine.proofs.Laws.Bits.{flags-full, flags-mouse, flags-command, flags-terr, flags-perr, flags-breaks, flags-locked}
 use Rattle.machine.proofs.Laws.Bits.{flags-below, flags-byte, latches-0, latches-1, latches-below, latches-byte}
 use Rattle.machine.proofs.Laws.Bits.{overlay-below, overlay-byte, eqb-nibble, options-byte}
@@ -28,6 +28,34 @@ zeros (x ∷ l) each = ap₂ _∷_ (each zero (omega arith)) (zeros l (λ k h. e
 -- ---- optionsOf
 settings-options : (x : Settings) → settingsOf (optionsOf x) ≡ x
 settings-options x = λ i. record { mouseLock = latches-0 (x .mouseLock) false i }
+
+-- ---- beyond
+pub beyond-same : (p q : Public) → p .settings ≡ q .settings → beyond p ≡ beyond q
+beyond-same p q same = ap (λ (x : Settings). optionsOf x ∷ []) same
+
+options-below : (x : Settings) → optionsOf x < 2
+options-below x = omega (arith, overlay-below (x .mouseLock))
+
+pub beyond-below : (p : Public) → Below 256 (beyond p)
+beyond-below p zero = omega (arith, options-below (p .settings))
+beyond-below p (suc k) = omega arith
+
+-- a body with it behind
+module _ (b : List ℕ) (long : length b ≡ 60) (p : Public) where
+  pub length-extended : length (b ++ beyond p) ≡ stateLength
+  length-extended = length-append b (beyond p) ∙ omega arith
+
+  pub take-extended : take 60 (b ++ beyond p) ≡ b
+  take-extended = take-at b (beyond p) 60 long
+
+  drop-extended : drop 60 (b ++ beyond p) ≡ beyond p
+  drop-extended = drop-at b (beyond p) 60 long
+
+  options-extended : at (b ++ beyond p) 60 ≡ optionsOf (p .settings)
+  options-extended = sym (getD-drop 60 (b ++ beyond p) 0 0) ∙ ap (λ (l : List ℕ). getD l 0 0) drop-extended
+
+  pub options-fit : at (b ++ beyond p) 60 < 2
+  options-fit = omega (arith, options-extended, options-below (p .settings))
 
 -- ---- the parts of a state
 module _ (m : Machine) (short : length (m .secret .code) ≤ 16) where
@@ -54,23 +82,20 @@ module _ (m : Machine) (short : length (m .secret .code) ≤ 16) where
 
     length-state : length (stateOf m) ≡ stateLength
     unfolding stateOf
-    length-state = omega (arith, length-append (body m) (beyond (m .plain)), length-body)
+    length-state = length-extended (body m) length-body (m .plain)
 
     -- an image's body is the front of it
     take-body : take 60 (stateOf m) ≡ body m
     unfolding stateOf
-    take-body = take-at (body m) (beyond (m .plain)) 60 length-body
+    take-body = take-extended (body m) length-body (m .plain)
 
     pub drop-body : drop 60 (stateOf m) ≡ beyond (m .plain)
     unfolding stateOf
-    drop-body = drop-at (body m) (beyond (m .plain)) 60 length-body
+    drop-body = drop-extended (body m) length-body (m .plain)
 
     pub ram-part : at (stateOf m) 28 ∷ take 31 (drop 29 (stateOf m)) ≡ m .plain .ram
     ram-part =
         ap (take 32) (sym (drop-cons (stateOf m) 28 0 (omega (arith, length-state))) ∙ drop-28) ∙ take-at (m .plain .ram) (beyond (m .plain)) 32 cells
-
-    options-part : at (stateOf m) 60 ≡ optionsOf (m .plain .settings)
-    options-part = sym (getD-drop 60 (stateOf m) 0 0) ∙ ap (λ (l : List ℕ). getD l 0 0) drop-body
 
     -- the machine of a machine's bytes is the machine
     pub view-state : view (stateOf m) ≡ m
@@ -81,7 +106,8 @@ module _ (m : Machine) (short : length (m .secret .code) ≤ 16) where
         let h = p .host in
         let code : take (length (m .secret .code)) (take 16 (drop 12 (stateOf m))) ≡ m .secret .code =
         ap (take (length (m .secret .code))) code-part ∙ take-append-seam (m .secret .code) _ in
-        let settings : settingsOf (at (stateOf m) 60) ≡ p .settings = ap settingsOf options-part ∙ settings-options (p .settings) in
+        let settings : settingsOf (at (stateOf m) 60) ≡ p .settings =
+        ap settingsOf (options-extended (body m) length-body p) ∙ settings-options (p .settings) in
         λ i. record {
           plain = record {
             output = record { byte = o .byte; full = flags-full p i; mouse = flags-mouse p i };
@@ -215,7 +241,7 @@ module _ (s : List ℕ) (long : length s ≡ stateLength) where
             ∙ sym (getD-drop (length c) (padded c) (k - length c) 0)
             ∙ ap (λ (l : List ℕ). getD l (k - length c) 0) (drop-append-seam c _)
             ∙ getD-zeros (16 - length c) (k - length c);
-        options = omega (arith, options-part m short cells, overlay-below (m .plain .settings .mouseLock));
+        options = options-fit (body m) (length-body m short cells) (m .plain);
       }
 
   pub state-tidy : IsState s → Tidy s
