@@ -29,6 +29,8 @@
  *   controller that runs. A board that must not lose it does not load.
  * - A frame that mouse lock keeps back is lost: the refusal is 0, so the mouse
  *   does not send it again. This holds for replies of the mouse too.
+ * - A frame with a wrong start bit is noise. Feed it or drop it: the event
+ *   changes nothing, refused or not, and the host sees nothing of it.
  */
 #ifndef CALUGNID_H
 #define CALUGNID_H
@@ -139,7 +141,8 @@ enum {
 /* Results of calugnid_judge past the bytes, and bits of calugnid_translate. */
 enum {
     CALUGNID_PARITY_ERROR = 0x100,
-    CALUGNID_FRAMING_ERROR = 0x101,
+    CALUGNID_FRAMING_ERROR = 0x101, /* stop bit wrong */
+    CALUGNID_NOISE = 0x102,         /* start bit wrong */
     CALUGNID_YIELDS = 0x100,
     CALUGNID_BREAK_FLAG = 0x200
 };
@@ -202,8 +205,9 @@ uint8_t calugnid_run_image(const uint8_t *image, size_t image_length,
  * where there is no image (refusal 10). */
 size_t calugnid_find(const uint8_t *image, size_t image_length);
 
-/* The frame check: 0-FFh the byte of a sound frame, else a parity error, or a
- * framing error, which is also a number of more than eleven bits. */
+/* The frame check: 0-FFh the byte of a sound frame, else what is wrong with it.
+ * The start bit is judged first, then the stop bit, then parity. A number of
+ * more than eleven bits is no frame, and a framing error whatever its bits. */
 uint16_t calugnid_judge(uint16_t frame);
 
 /* The eleven-bit frame of a byte. */

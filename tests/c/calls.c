@@ -8,8 +8,9 @@
 /* The part of a state that an image holds. The byte after it is the options. */
 enum { BODY_BYTES = 60 };
 
-/* The frame of 14h, the same with the other parity, and one without a stop bit. */
-enum { SOUND = 0x628, WRONG_PARITY = 0x428, BROKEN = 0x3FE };
+/* The frame of 14h, the same with the other parity, one without a stop bit, and
+ * all ones, where the start bit is wrong. */
+enum { SOUND = 0x628, WRONG_PARITY = 0x428, BROKEN = 0x3FE, NOISE = 0x7FF };
 
 static int failures;
 
@@ -287,12 +288,102 @@ static void try_run_image_with_mouse_lock(void)
     CHECK(memcmp(answers, shown, sizeof shown) == 0);
 }
 
+/* Feeds noise from one device, with each stop bit and parity: the event is
+ * refused by this number or accepted, and no byte of the state changes. */
+static bool noise_leaves(uint8_t *state, uint8_t kind, uint8_t refusal)
+{
+    uint8_t before[CALUGNID_STATE_BYTES], answer[CALUGNID_ANSWER_BYTES];
+    uint8_t right[CALUGNID_ANSWER_BYTES];
+
+    memcpy(before, state, sizeof before);
+    calugnid_lines(state, right);
+    right[CALUGNID_AT_REFUSAL] = refusal;
+    for (uint16_t value = 1; value < 0x800; value += 2) {
+        calugnid_event(state, kind, value, answer);
+        if (memcmp(answer, right, sizeof right) != 0 || memcmp(state, before, sizeof before) != 0)
+            return false;
+    }
+    return true;
+}
+
+/* Noise from either device. */
+static bool noises_leave(uint8_t *state, uint8_t refusal)
+{
+    return noise_leaves(state, CALUGNID_KEYBOARD_FRAME, refusal) &&
+           noise_leaves(state, CALUGNID_MOUSE_FRAME, refusal);
+}
+
+/* Noise leaves error bits, break flag and an unread byte, and is refused where
+ * any frame is. The options make no difference. */
+static void try_noise(uint8_t options)
+{
+    uint8_t state[CALUGNID_STATE_BYTES], answer[CALUGNID_ANSWER_BYTES];
+
+    calugnid_start(state, options);
+    CHECK(noises_leave(state, CALUGNID_NOT_READY)); /* both devices are off */
+    CHECK(leaves(state, CALUGNID_WRITE_COMMAND, 0xAE, 0x18, 0x0B));
+    CHECK(leaves(state, CALUGNID_WRITE_COMMAND, 0xA8, 0x18, 0x03));
+    CHECK(noises_leave(state, CALUGNID_ACCEPTED));
+    CHECK(leaves(state, CALUGNID_KEYBOARD_FRAME, BROKEN, 0x59, 0x03));
+    CHECK(noises_leave(state, CALUGNID_NOT_READY)); /* FFh waits */
+    CHECK(reads(state, 0xFF, false));
+    CHECK(noises_leave(state, CALUGNID_ACCEPTED)); /* TERR stays */
+    CHECK(leaves(state, CALUGNID_MOUSE_FRAME, WRONG_PARITY, 0xB9, 0x03));
+    CHECK(reads(state, 0xFF, false));
+    CHECK(noises_leave(state, CALUGNID_ACCEPTED)); /* PERR stays */
+    CHECK(leaves(state, CALUGNID_KEYBOARD_FRAME, calugnid_frame(0xF0), 0x18, 0x03));
+    CHECK(noises_leave(state, CALUGNID_ACCEPTED)); /* the break flag stays */
+    CHECK(leaves(state, CALUGNID_KEYBOARD_FRAME, SOUND, 0x19, 0x03));
+    CHECK(reads(state, 0x9D, false));
+    calugnid_event(state, CALUGNID_WRITE_DATA, 0xED, answer);
+    CHECK(noises_leave(state, CALUGNID_NOT_READY)); /* a byte is being sent */
+    CHECK(calugnid_refusal(state, CALUGNID_MOUSE_FRAME, 0x801) == CALUGNID_BAD_VALUE);
+}
+
+/* With mouse lock and the key switch turned too. */
+static void try_noise_with_turned_switch(void)
+{
+    uint8_t state[CALUGNID_STATE_BYTES];
+
+    start_turned(state, CALUGNID_MOUSE_LOCK, 0x02);
+    CHECK(leaves(state, CALUGNID_MOUSE_FRAME, BROKEN, 0x40, 0x03));
+    CHECK(noises_leave(state, CALUGNID_ACCEPTED));
+    CHECK(leaves(state, CALUGNID_PINS, 0xFF, 0x50, 0x03));
+    CHECK(noises_leave(state, CALUGNID_ACCEPTED));
+}
+
+/* In the middle of a lock code of two keys the first of them stays typed. */
+static void try_noise_while_locked(uint8_t options)
+{
+    static const uint8_t code[] = {0x1E, 0x30, 0x00};
+    uint8_t state[CALUGNID_STATE_BYTES];
+
+    calugnid_start(state, options);
+    CHECK(leaves(state, CALUGNID_WRITE_COMMAND, 0xAE, 0x18, 0x0B));
+    CHECK(leaves(state, CALUGNID_WRITE_COMMAND, 0xA8, 0x18, 0x03));
+    CHECK(leaves(state, CALUGNID_WRITE_COMMAND, 0xA5, 0x18, 0x03));
+    for (size_t i = 0; i < sizeof code; i++)
+        CHECK(leaves(state, CALUGNID_WRITE_DATA, code[i], 0x10, 0x03));
+    CHECK(leaves(state, CALUGNID_WRITE_COMMAND, 0xA6, 0x18, 0x03));
+    CHECK(leaves(state, CALUGNID_KEYBOARD_FRAME, calugnid_frame(0x1C), 0x18, 0x03));
+    CHECK(noises_leave(state, CALUGNID_ACCEPTED));
+    CHECK(calugnid_refusal(state, CALUGNID_WRITE_COMMAND, 0xA4) == CALUGNID_LOCKED);
+    CHECK(leaves(state, CALUGNID_KEYBOARD_FRAME, calugnid_frame(0x32), 0x18, 0x03));
+    CHECK(calugnid_refusal(state, CALUGNID_WRITE_COMMAND, 0xA4) == CALUGNID_ACCEPTED);
+}
+
 static void try_numbers(void)
 {
     CHECK(calugnid_frame(0x14) == 0x628);
     CHECK(calugnid_judge(0x628) == 0x14);
     CHECK(calugnid_judge(0x428) == CALUGNID_PARITY_ERROR);
-    CHECK(calugnid_judge(2047) == CALUGNID_FRAMING_ERROR);
+    CHECK(calugnid_judge(1022) == CALUGNID_FRAMING_ERROR);
+    CHECK(calugnid_judge(1023) == CALUGNID_NOISE);
+    CHECK(calugnid_judge(NOISE) == CALUGNID_NOISE);
+    CHECK(calugnid_judge(0x629) == CALUGNID_NOISE);
+    CHECK(calugnid_judge(0xE28) == CALUGNID_FRAMING_ERROR);
+    CHECK(calugnid_judge(0xE29) == CALUGNID_FRAMING_ERROR);
+    CHECK(calugnid_judge(0xFFFF) == CALUGNID_FRAMING_ERROR);
     CHECK(calugnid_translate(0x14, false) == (CALUGNID_YIELDS | 0x1D));
     CHECK(calugnid_translate(0x79, true) == (CALUGNID_YIELDS | 0xCE));
     CHECK(calugnid_translate(0xF0, false) == CALUGNID_BREAK_FLAG);
@@ -310,6 +401,11 @@ int main(void)
     try_beside_mouse_lock();
     try_loads_with_mouse_lock();
     try_run_image_with_mouse_lock();
+    for (int options = 0; options < 256; options++) {
+        try_noise((uint8_t)options);
+        try_noise_while_locked((uint8_t)options);
+    }
+    try_noise_with_turned_switch();
     try_numbers();
     return failures != 0;
 }

@@ -116,7 +116,7 @@ pub fn frames() {
     );
     case(
         b"F0h yields nothing and sets bit 7 of the next byte",
-        b"03AE00 04E007 000000 04F204 000000 04F204 000000 04E007 04FF07 000000 04F204 000000",
+        b"03AE00 04E007 000000 04F204 000000 04F204 000000 04E007 04FE03 000000 04F204 000000",
     );
 }
 
@@ -145,5 +145,36 @@ pub fn mouse_lock() {
     case(
         b"a turned key keeps no mouse byte back without the mouse lock",
         b"03A800 087F00 052806 020000 000000",
+    );
+}
+
+// Frames whose start bit is wrong: 7FFh, 3FFh and others that are odd. 3FEh is broken, 428h has wrong parity.
+pub fn noise() {
+    case(
+        b"noise puts nothing and leaves the errors",
+        b"03AE00 03A800 04FF07 000000 04FE03 000000 04FF07 05FF03 000000 \
+        052804 000000 052906 042904 042806 000000 04FF07 020000",
+    );
+    case(
+        b"noise leaves the break flag",
+        b"03AE00 03A800 04E007 04FF07 05FF07 04F204 000000 04F204 000000",
+    );
+    case(
+        b"noise in the middle of the code leaves the position, a broken frame does not",
+        b"03AE00 03A800 037400 019900 03A500 011E00 013000 010000 03A600 \
+        043804 04FF07 05FF07 046404 000000 03A600 043804 04FE03 046404 043804 046404 000000",
+    );
+    case(
+        b"noise is refused by 5 as other frames are",
+        b"04FF07 05FF07 03AA00 04FF07 05FF03 000000 04FF07 05FF03 \
+        011400 04FF03 05FF07 060000 04FF03 05FF07 040108 050108",
+    );
+    case(
+        b"noise with the keyboard inhibited",
+        b"03AE00 087F00 04E007 04FF07 08FF00 04F204 000000",
+    );
+    locked_case(
+        b"noise from the mouse with the mouse lock and the key turned",
+        b"03A800 087F00 052804 05FF07 05FF03 05FE03 052906 000000 08FF00 05FF07 052806 000000",
     );
 }

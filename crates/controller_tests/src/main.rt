@@ -210,4 +210,5 @@ fn main() {
     cases::lock();
     cases::frames();
     cases::mouse_lock();
+    cases::noise();
 }

@@ -111,7 +111,7 @@ fn sound_key(s: &mut State, byte: u8)
     keyed(s, yields);
 }
 
-// What the frame does.
+// What the frame does. Noise does nothing.
 fn keyboard_frame(s: &mut State, v: Verdict)
     ensures { λ _. ⌜ Changed (frame.keyboardFrame (verdict v)) (now (s .entry)) (now (s .exit)) ⌝ }
 {
@@ -119,6 +119,7 @@ fn keyboard_frame(s: &mut State, v: Verdict)
         Verdict::Sound(byte) => sound_key(s, byte),
         Verdict::Parity => damaged_key(s, false, true),
         Verdict::Broken => damaged_key(s, true, false),
+        Verdict::Noise => {}
     }
 }
 

@@ -43,7 +43,7 @@ fn sound_mouse(s: &mut State, byte: u8)
     put_from_mouse(s, byte);
 }
 
-// What the frame does.
+// What the frame does. Noise does nothing.
 fn mouse_frame(s: &mut State, v: Verdict)
     ensures { λ _. ⌜ Changed (lift (frame.mouseFrame (verdict v))) (now (s .entry)) (now (s .exit)) ⌝ }
 {
@@ -51,6 +51,7 @@ fn mouse_frame(s: &mut State, v: Verdict)
         Verdict::Sound(byte) => sound_mouse(s, byte),
         Verdict::Parity => damaged_mouse(s, false, true),
         Verdict::Broken => damaged_mouse(s, true, false),
+        Verdict::Noise => {}
     }
 }
 

@@ -8,6 +8,7 @@ pub mod DataPort
 pub mod Commands
 pub mod Frames
 pub mod Events
+pub mod Noise
 pub mod Settings
 pub mod Alike
 pub mod KeptParts

@@ -4,20 +4,20 @@ use mathlib.Core.Bool.{Bool, true, false, cond, not, _&&_, _||_}
 use lib.ListN.{length, getD}
 use lib.Dec.{eqb, ltb}
 use Rattle.translation.specs.Bits.{has}
-use Rattle.translation.specs.Frames.{Check, sound, parity, broken, check}
+use Rattle.translation.specs.Frames.{Check, sound, parity, broken, noise, check}
 use Rattle.translation.specs.ScanCodes.{Translation, Yielded, nothing, byte, translate, raw, builtIn}
 use Rattle.machine.specs.State.{Public, Machine, withErrors, withPorts, withBreaks, withLocked, lift, withSecret}
 use Rattle.machine.specs.Lines.{put, putMouse, putCell, cellOf, inhibited, mouseInhibited, translates}
 use Rattle.machine.specs.DataPort.{send}
 
--- The error bits after a frame: a broken one sets TERR, a wrong parity PERR, and the other is cleared.
+-- The error bits after a frame that is no noise: a broken one sets TERR, a wrong parity PERR, and the other is cleared.
 abbrev pub errorsSet : Bool → Bool → Public → Public
 errorsSet t e p = withErrors p (record { terr = t; perr = e })
 
 abbrev pub positioned : ℕ → Machine → Machine
 positioned k m = withSecret m (record { code = m .secret .code; position = k })
 
--- FFh for a damaged keyboard frame, unless locked or inhibited
+-- FFh for a damaged keyboard frame, one that is broken or has wrong parity, unless locked or inhibited
 unfoldable pub keyError : Public → Public
 keyError p = cond (p .locked || inhibited p) p (put 0xFF p)
 
@@ -73,19 +73,23 @@ soundKey b m =
     let t = translated b (m .plain) in
     keyed (t .yields) (lift (breaking (t .breaks)) (lift (errorsSet false false) m))
 
+-- Kind 4. Noise leaves all as it is, locked or not (document 02, W2).
 unfoldable pub keyboardFrame : Check → Machine → Machine
 keyboardFrame (sound b) m = soundKey b m
 keyboardFrame parity m = damagedKey false true m
 keyboardFrame broken m = damagedKey true false m
+keyboardFrame noise m = m
 
--- A mouse frame sets the errors likewise; its byte, or FFh for a damaged one, is put unless locked or kept back by the mouse lock.
+-- A byte from the mouse, or FFh for a damaged frame, is put unless locked or kept back by the mouse lock.
 unfoldable pub mousePut : ℕ → Public → Public
 mousePut b p = cond (p .locked || mouseInhibited p) p (putMouse b p)
 
+-- Kind 5. The errors are set likewise, and noise leaves all as it is.
 unfoldable pub mouseFrame : Check → Public → Public
 mouseFrame (sound b) p = mousePut b (errorsSet false false p)
 mouseFrame parity p = mousePut 0xFF (errorsSet false true p)
 mouseFrame broken p = mousePut 0xFF (errorsSet true false p)
+mouseFrame noise p = p
 
 -- nothing is being sent any more
 abbrev pub idle : Public → Public

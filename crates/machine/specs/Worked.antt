@@ -5,7 +5,7 @@ use mathlib.Core.Bool.{Bool, true, false, cond, not, _&&_, _||_}
 use mathlib.Core.List.{List, [], _∷_, _++_, map}
 use lib.ListN.{getD}
 use lib.Dec.{eqb}
-use Rattle.translation.specs.Frames.{Check, sound, parity, broken, check, frame}
+use Rattle.translation.specs.Frames.{Check, sound, parity, broken, noise, check, frame}
 use Rattle.translation.specs.ScanCodes.{from}
 use Rattle.machine.specs.Settings.{ordinary}
 use Rattle.machine.specs.State.{Machine, fresh}
@@ -69,11 +69,12 @@ same [] (y ∷ ys) = false
 same (x ∷ xs) [] = false
 same (x ∷ xs) (y ∷ ys) = eqb x y && same xs ys
 
--- status and byte after a frame: OBF and P1 bit 7, with PERR for a wrong parity and TERR for a broken frame
+-- status and byte after a frame: OBF and P1 bit 7, with PERR for a wrong parity and TERR for a broken frame; after noise no byte
 abbrev pub shown : Check → List ℕ
 shown (sound b) = 0x11 ∷ b ∷ []
 shown parity = 0x91 ∷ 0xFF ∷ []
 shown broken = 0x51 ∷ 0xFF ∷ []
+shown noise = 0x10 ∷ []
 
 -- closed before each key, open after the last
 abbrev pub opensAt : Machine → List ℕ → Bool
@@ -115,7 +116,7 @@ table =
     found 0x7E0 (sound 0xF0) ∷
     found 0x628 (sound 0x14) ∷
     found 0x428 parity ∷
-    found 2047 broken ∷
+    found 2047 noise ∷
     opens (0x1E ∷ 0x30 ∷ []) (0x1C ∷ 0x32 ∷ []) ∷
     loads 16 true ∷
     loads 17 false ∷ []

@@ -17,10 +17,11 @@ fn number_of(v: Verdict) -> u16
         Verdict::Sound(byte) => byte as u16,
         Verdict::Parity => 256,
         Verdict::Broken => 257,
+        Verdict::Noise => 258,
     }
 }
 
-// The frame check: the byte of a sound frame, 256 for a parity error, 257 for a broken frame.
+// The frame check: the byte of a sound frame, 256 for a parity error, 257 for a broken frame, 258 for noise.
 #[no_mangle]
 pub extern "C" fn calugnid_judge(frame: u16) -> u16
     ensures { λ r. ⌜ r ≡ checkNumber (check frame) ⌝ }

@@ -7,9 +7,9 @@ use mathlib.Core.Bool.{Bool}
 use native.Mathlib.Nat.{div-div-eq-div-mul}
 use native.Mathlib.Omega.{arith}
 use lib.Dec.{eqb}
-use borrow.Author.Tests.{le-ltb, eqb-true, eqb-false, ltb-true, ltb-false, not-true, not-false}
+use borrow.Author.Tests.{lt-ltb, le-ltb, eqb-true, eqb-false, ltb-true, ltb-false, not-true, not-false}
 use Rattle.translation.specs.Bits.{bit}
-use Rattle.translation.specs.Frames.{sound, parity, broken, startWrong, stopWrong, tooLong, byteOf, ones, check, frame}
+use Rattle.translation.specs.Frames.{sound, parity, broken, noise, startWrong, stopWrong, tooLong, byteOf, ones, check, frame}
 use Rattle.translation.proofs.Tests.{split, every, every-below}
 
 -- ones
@@ -30,6 +30,14 @@ ones-framed b p byte flag =
 abbrev pub Framed : ℕ → Type 0
 Framed f = (bit f 0 ≡ 0) × (bit f 10 ≡ 1) × (f ≤ 2047)
 
+-- eleven bits, of which the first is 1
+abbrev pub FalseStart : ℕ → Type 0
+FalseStart f = (bit f 0 ≡ 1) × (f ≤ 2047)
+
+-- more than eleven bits, or the first and the last of them are 0
+abbrev pub Unstopped : ℕ → Type 0
+Unstopped f = (2047 < f) ⊎ ((bit f 0 ≡ 0) × (bit f 10 ≡ 0))
+
 pub check-odd : (f : ℕ) → Framed f → ones f % 2 ≡ 1 → check f ≡ sound (byteOf f)
 unfolding check
 check-odd f (start, stop, short) odd = simp (start, stop, le-ltb _ _ short, odd)
@@ -38,23 +46,33 @@ pub check-even : (f : ℕ) → Framed f → ones f % 2 ≡ 0 → check f ≡ par
 unfolding check
 check-even f (start, stop, short) even = simp (start, stop, le-ltb _ _ short, even)
 
--- Each number has one verdict, by what its bits are: the three descriptions exclude one another.
+pub check-noise : (f : ℕ) → FalseStart f → check f ≡ noise
+unfolding check
+check-noise f (start, short) = simp (start, le-ltb _ _ short)
+
+pub check-broken : (f : ℕ) → Unstopped f → check f ≡ broken
+check-broken f (inl long) = unfold check in simp (lt-ltb _ _ long)
+check-broken f (inr (start, stop)) = unfold check in split (tooLong f) (λ l. simp l) (λ l. simp (l, start, stop))
+
+-- Each number has one verdict, by what its bits are: the four descriptions exclude one another.
 pub check-one : (f : ℕ) →
     ((check f ≡ sound (byteOf f)) × Framed f × (ones f % 2 ≡ 1))
     ⊎ ((check f ≡ parity) × Framed f × (ones f % 2 ≡ 0))
-    ⊎ ((check f ≡ broken) × (Framed f → ⊥))
-unfolding check
+    ⊎ ((check f ≡ broken) × Unstopped f)
+    ⊎ ((check f ≡ noise) × FalseStart f)
 check-one f =
-    split (startWrong f) (λ s. inr (inr (simp s, λ k. omega (arith, eqb-true (bit f 0) 1 s)))) λ s.
-    split (stopWrong f) (λ t. inr (inr (simp (s, t), λ k. eqb-false (bit f 10) 1 (not-true _ t) (k .1)))) λ t.
-    split (tooLong f) (λ l. inr (inr (simp (s, t, l), λ k. omega (arith, ltb-true 2047 f l)))) λ l.
-    let framed : Framed f = (omega (arith, eqb-false (bit f 0) 1 s), eqb-true (bit f 10) 1 (not-false _ t), ltb-false 2047 f l) in
-    split (eqb (ones f % 2) 1) (λ o. inl (simp (s, t, l, o), framed, eqb-true _ _ o))
-    (λ o. inr (inl (simp (s, t, l, o), framed, omega (arith, eqb-false (ones f % 2) 1 o))))
-
-pub check-unframed : (f : ℕ) → (Framed f → ⊥) → check f ≡ broken
-check-unframed f bad =
-    ⊎-elim (λ k. absurd (bad (k .1))) (⊎-elim (λ k. absurd (bad (k .1))) (λ k. k .0)) (check-one f)
+    split (tooLong f) (λ l. let u : Unstopped f = inl (ltb-true 2047 f l) in inr (inr (inl (check-broken f u, u)))) λ l.
+    split (startWrong f)
+    (λ s. let n : FalseStart f = (eqb-true (bit f 0) 1 s, ltb-false 2047 f l) in inr (inr (inr (check-noise f n, n)))) λ s.
+    let start : bit f 0 ≡ 0 = omega (arith, eqb-false (bit f 0) 1 s) in
+    split (stopWrong f)
+    (λ t.
+    let u : Unstopped f = inr (start, omega (arith, eqb-false (bit f 10) 1 (not-true _ t))) in
+    inr (inr (inl (check-broken f u, u)))) λ t.
+    let framed : Framed f = (start, eqb-true (bit f 10) 1 (not-false _ t), ltb-false 2047 f l) in
+    split (eqb (ones f % 2) 1)
+    (λ o. let odd : ones f % 2 ≡ 1 = eqb-true _ _ o in inl (check-odd f framed odd, framed, odd))
+    (λ o. let even : ones f % 2 ≡ 0 = omega (arith, eqb-false (ones f % 2) 1 o) in inr (inl (check-even f framed even, framed, even)))
 
 -- frame
 
@@ -102,5 +120,6 @@ check-sound f b e =
     (λ s.
     let same : byteOf f ≡ b = cc (s .0) in
     (omega arith, sym (frame-byteOf f (s .1) (s .2)) ∙ ap frame same))
-    (⊎-elim (λ p. let z : _≡_ {A = ℕ} 0 1 = cc (p .0) in omega arith) (λ b. let z : _≡_ {A = ℕ} 0 1 = cc (b .0) in omega arith))
+    (⊎-elim (λ p. let z : _≡_ {A = ℕ} 0 1 = cc (p .0) in omega arith)
+    (⊎-elim (λ b. let z : _≡_ {A = ℕ} 0 1 = cc (b .0) in omega arith) (λ n. let z : _≡_ {A = ℕ} 0 1 = cc (n .0) in omega arith)))
     (check-one f)

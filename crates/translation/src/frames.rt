@@ -2,11 +2,12 @@
 ghost use mathlib.Core.Path.{_≡_};
 ghost use Rattle.translation.specs.Frames.{check, frame, verdict, ones};
 
-// What the frame check finds: a sound frame with its byte, a wrong parity bit, or a wrong start or stop bit.
+// What the frame check finds: a sound frame with its byte, a wrong parity bit, a wrong stop bit, or a wrong start bit.
 pub enum Verdict {
     Sound(u8),
     Parity,
     Broken,
+    Noise,
 }
 
 // How many of the bits 1-9 are ones: eleven bits fit sixteen, so no wider number is used.
@@ -24,18 +25,18 @@ fn count_ones(f: u16) -> u16
         + f / 512 % 2
 }
 
-// A number above 2047 is no frame, and is broken.
+// A number above 2047 is no frame, and is broken, odd or even: it is told before the start bit is looked at.
 pub fn judge(f: u16) -> Verdict
     ensures { λ r. ⌜ verdict r ≡ check f ⌝ }
 {
-    if f % 2 == 1 {
-        return Verdict::Broken;
-    }
-    if f / 1024 % 2 == 0 {
-        return Verdict::Broken;
-    }
     if 2047 < f {
-        return Verdict::Broken;
+        return Verdict::Broken; // no frame
+    }
+    if f % 2 == 1 {
+        return Verdict::Noise;
+    }
+    if f / 1024 == 0 {
+        return Verdict::Broken; // no stop bit
     }
     if count_ones(f) % 2 == 1 {
         Verdict::Sound((f / 2 % 256) as u8)

@@ -46,6 +46,7 @@ fn put_frame(f: u16) {
         }
         Verdict::Parity => put(b" parity"),
         Verdict::Broken => put(b" broken"),
+        Verdict::Noise => put(b" noise"),
     }
     put(b"\n");
 }

@@ -2,6 +2,7 @@
 
 use crate::event::{Event, kind};
 use crate::mouse_coverage::MouseCoverage;
+use crate::noise_coverage::NoiseCoverage;
 use model::{Controller, PASSWORD_LIMIT, Pending, Settings, Verdict, judge};
 
 #[derive(Clone, Debug)]
@@ -24,6 +25,7 @@ pub struct Coverage {
     pub overridden: usize,
     pub overlays: usize,
     pub mouse: MouseCoverage,
+    pub noise: NoiseCoverage,
 }
 
 impl Coverage {
@@ -46,6 +48,7 @@ impl Coverage {
             overridden: 0,
             overlays: 0,
             mouse: MouseCoverage::default(),
+            noise: NoiseCoverage::default(),
         }
     }
 
@@ -53,6 +56,7 @@ impl Coverage {
     pub fn note(&mut self, before: &Controller, event: Event, refusal: u8, after: &Controller) {
         self.events += 1;
         self.refusals[usize::from(refusal)] += 1;
+        self.noise.note(before, event, refusal);
         if refusal != 0 {
             return;
         }
@@ -96,6 +100,9 @@ impl Coverage {
         for (count, situation) in self.mouse.reached(settings) {
             often(count, 10, &situation);
         }
+        for (count, situation) in self.noise.reached(settings) {
+            often(count, 30, &situation);
+        }
     }
 
     fn note_data(&mut self, before: &Controller, event: Event, after: &Controller) {
@@ -120,10 +127,16 @@ impl Coverage {
     fn note_keyboard(&mut self, before: &Controller, event: Event, after: &Controller) {
         let overridden = before.key_turned() && !before.inhibited();
         self.overridden += usize::from(overridden && after.full);
-        let Verdict::Sound(byte) = judge(event.value) else {
-            self.resets_by_damage += usize::from(before.position > 0);
-            return;
-        };
+        match judge(event.value) {
+            Verdict::Sound(byte) => self.note_key(before, byte, after),
+            Verdict::WrongParity | Verdict::Broken => {
+                self.resets_by_damage += usize::from(before.position > 0);
+            }
+            Verdict::Noise => {}
+        }
+    }
+
+    fn note_key(&mut self, before: &Controller, byte: u8, after: &Controller) {
         self.keyboard_bytes[usize::from(byte)] += 1;
         self.swallowed += usize::from(before.locked && before.inhibited());
         if before.locked && !after.locked {

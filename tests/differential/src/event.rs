@@ -1,6 +1,6 @@
 //! One event of a list.
 
-use model::frame;
+use model::{Device, Verdict, frame, judge};
 
 pub mod kind {
     pub const READ_DATA: u8 = 0;
@@ -53,6 +53,20 @@ impl Event {
 
     pub fn pins(value: u8) -> Event {
         Event::new(kind::PINS, value.into())
+    }
+
+    /// The device that a frame comes from.
+    pub fn frame_from(self) -> Option<Device> {
+        match self.kind {
+            kind::KEYBOARD_FRAME => Some(Device::Keyboard),
+            kind::MOUSE_FRAME => Some(Device::Mouse),
+            _ => None,
+        }
+    }
+
+    /// A frame whose start bit is wrong.
+    pub fn is_noise(self) -> bool {
+        self.frame_from().is_some() && judge(self.value) == Verdict::Noise
     }
 
     pub fn to_bytes(self) -> [u8; 3] {

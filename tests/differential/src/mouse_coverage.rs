@@ -9,14 +9,16 @@ enum Arrival {
     SoundFrame,
     WrongParity,
     BrokenFrame,
+    Noise,
     /// A byte sent to the mouse was not taken.
     TimeOut,
 }
 
-const FRAMES: [Arrival; 3] = [
+const FRAMES: [Arrival; 4] = [
     Arrival::SoundFrame,
     Arrival::WrongParity,
     Arrival::BrokenFrame,
+    Arrival::Noise,
 ];
 
 #[derive(Clone, Copy, Debug, PartialEq, Eq, PartialOrd, Ord)]
@@ -40,6 +42,7 @@ fn arrival(before: &Controller, event: Event) -> Option<Arrival> {
             Verdict::Sound(_) => Arrival::SoundFrame,
             Verdict::WrongParity => Arrival::WrongParity,
             Verdict::Broken => Arrival::BrokenFrame,
+            Verdict::Noise => Arrival::Noise,
         }),
         kind::BYTE_TIMED_OUT => match before.sending {
             Some((Device::Mouse, _)) => Some(Arrival::TimeOut),
@@ -111,10 +114,10 @@ mod tests {
     fn each_situation_is_asked_for_once() {
         for settings in Settings::ALL {
             let mut all = situations(settings);
-            assert_eq!(all.len(), 8 * 3 + 4);
+            assert_eq!(all.len(), 8 * 4 + 4);
             all.sort();
             all.dedup();
-            assert_eq!(all.len(), 8 * 3 + 4);
+            assert_eq!(all.len(), 8 * 4 + 4);
         }
     }
 

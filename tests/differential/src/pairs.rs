@@ -25,6 +25,14 @@ pub struct PairCoverage {
     pub refused_apart: usize,
     /// Pairs in which a mouse frame came with the key switch turned.
     pub key_turned: usize,
+    /// Pairs in which noise was accepted with both lists within their codes,
+    /// which differ.
+    pub noise_within: usize,
+    /// Pairs in which it was accepted with one list further than the other.
+    pub noise_progressed_apart: usize,
+    /// Pairs in which the lock opened for two different codes after noise
+    /// between their keys.
+    pub opened_over_noise: usize,
 }
 
 /// What has happened so far in the pair being built.
@@ -36,6 +44,17 @@ struct Seen {
     opened: usize,
     refused: bool,
     key_turned: bool,
+    noise: SeenNoise,
+}
+
+/// The same of noise, from either device.
+#[derive(Default)]
+struct SeenNoise {
+    within: bool,
+    progressed: bool,
+    opened: bool,
+    /// It came since the first keys of the codes now being typed.
+    between_keys: bool,
 }
 
 pub struct Pair {
@@ -86,6 +105,9 @@ impl Seen {
         coverage.reopened_apart += usize::from(self.opened > 1);
         coverage.refused_apart += usize::from(self.refused);
         coverage.key_turned += usize::from(self.key_turned);
+        coverage.noise_within += usize::from(self.noise.within);
+        coverage.noise_progressed_apart += usize::from(self.noise.progressed);
+        coverage.opened_over_noise += usize::from(self.noise.opened);
     }
 }
 
@@ -165,6 +187,21 @@ impl Builder {
         self.seen.refused |= keys_differ && refused;
         let mouse_frame = one.kind == kind::MOUSE_FRAME && !refused;
         self.seen.key_turned |= mouse_frame && self.first.key_turned();
+        if codes_differ {
+            self.note_noise(one.is_noise() && !refused, opened);
+        }
+    }
+
+    /// Looks for noise among the keys of two codes that differ.
+    fn note_noise(&mut self, accepted_noise: bool, opened: bool) {
+        let positions = [self.first.position, self.second.position];
+        let within = positions.iter().all(|&position| position > 0);
+        let seen = &mut self.seen.noise;
+        seen.between_keys &= within;
+        seen.between_keys |= accepted_noise && within;
+        seen.within |= accepted_noise && within;
+        seen.progressed |= accepted_noise && positions[0] != positions[1];
+        seen.opened |= opened && seen.between_keys;
     }
 
     /// One of the locks cannot open, so neither may.

@@ -120,8 +120,59 @@ mod tests {
         assert!(!comparable(MOUSE_LOCK, &right, &wrong));
     }
 
+    fn noise_values() -> impl Iterator<Item = u16> {
+        (1..0x800).step_by(2)
+    }
+
+    /// A key is a sound frame, and noise is none, whatever its data bits.
+    fn noise_may_not_differ_while_locked(settings: Settings) {
+        let mut locked = Controller::fresh(settings);
+        locked.password.push(0x1E);
+        locked.locked = true;
+        let keys = [Event::key(0x1C), Event::key(0x32)];
+        assert!(may_pair(&locked, keys[0], keys[1]));
+        for kind in [kind::KEYBOARD_FRAME, kind::MOUSE_FRAME] {
+            for value in noise_values() {
+                let noise = Event::new(kind, value);
+                assert!(may_pair(&locked, noise, noise), "{noise:?}");
+                let without = |bits: u16| Event::new(kind, value ^ bits);
+                let others = [without(0x002), without(0x200), without(0x400), without(1)];
+                for other in others.into_iter().chain(keys) {
+                    assert!(!may_pair(&locked, noise, other), "{noise:?} {other:?}");
+                    assert!(!may_pair(&locked, other, noise), "{other:?} {noise:?}");
+                }
+            }
+        }
+    }
+
+    /// Noise between the keys, the same in both lists, leaves two different
+    /// codes comparable; other noise in one of them does not.
+    fn noise_must_be_the_same_in_both_lists(settings: Settings) {
+        let noisy = |code, keys, noise: u16| -> Vec<u8> {
+            let mut list = list(code, keys);
+            let last = list.split_off(list.len() - EVENT_SIZE);
+            list.extend(Event::new(kind::KEYBOARD_FRAME, noise).to_bytes());
+            list.extend(last);
+            list
+        };
+        let opened = noisy([0x1E, 0x30], [0x1C, 0x32], 0x629);
+        let same_noise = noisy([0x30, 0x1E], [0x32, 0x1C], 0x629);
+        assert!(comparable(settings, &opened, &same_noise));
+        for value in noise_values().filter(|&value| value != 0x629) {
+            let other_noise = noisy([0x30, 0x1E], [0x32, 0x1C], value);
+            assert!(!comparable(settings, &opened, &other_noise), "{value:03X}");
+        }
+        // Damage in its place has the first list's lock stay shut.
+        let damaged = noisy([0x30, 0x1E], [0x32, 0x1C], 0x428);
+        assert!(!comparable(settings, &opened, &damaged));
+        let wrong = noisy([0x30, 0x1E], [0x32, 0x32], 0x629);
+        assert!(!comparable(settings, &opened, &wrong));
+    }
+
     crate::under_every_setting!(
         secrets_may_differ_where_the_lock_opens_alike,
         nothing_else_may_differ,
+        noise_may_not_differ_while_locked,
+        noise_must_be_the_same_in_both_lists,
     );
 }

@@ -15,25 +15,39 @@ const COMMANDS: [u8; 28] = [
 pub struct Walker {
     random: Random,
     /// Share of events, in percent, that do not follow the state.
-    noise: usize,
+    stray: usize,
     /// Nonzero bytes wanted in the code being loaded.
     code_length: usize,
+}
+
+/// Share of events, in percent, that are noise: some in every state, more
+/// where there is something that noise could spoil.
+fn noise_share(state: &Controller) -> usize {
+    let flagged = state.timeout_error || state.parity_error || state.break_flag;
+    match (flagged, state.position > 0) {
+        (false, false) => 2,
+        (true, true) => 25,
+        _ => 6,
+    }
 }
 
 impl Walker {
     pub fn new(seed: u64) -> Walker {
         let mut random = Random::new(seed);
-        let noise = random.pick(&[0, 2, 10, 40]);
+        let stray = random.pick(&[0, 2, 10, 40]);
         Walker {
             random,
-            noise,
+            stray,
             code_length: 0,
         }
     }
 
     pub fn next(&mut self, state: &Controller) -> Event {
-        if self.random.chance(self.noise) {
+        if self.random.chance(self.stray) {
             return unguided::any(&mut self.random);
+        }
+        if self.random.chance(noise_share(state)) {
+            return unguided::noise(&mut self.random);
         }
         if state.locked {
             self.while_locked(state)

@@ -7,7 +7,7 @@ use differential::lists;
 use differential::random::Random;
 use model::{IMAGE_SIZE, Settings};
 
-/// Exactly 7,000 events that follow the machine, noise at the end if needed.
+/// 7,001 events that follow the machine, at the end drawn blindly.
 fn full_list(random: &mut Random, settings: Settings) -> Vec<u8> {
     let mut list = lists::guided(settings, 71, 7_000, &mut Coverage::new());
     let missing = 7_001 - list.len() / 3;

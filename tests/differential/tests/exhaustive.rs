@@ -9,9 +9,36 @@ fn every_number_is_judged_alike() {
             Verdict::Sound(byte) => u16::from(byte),
             Verdict::WrongParity => panel::WRONG_PARITY,
             Verdict::Broken => panel::BROKEN,
+            Verdict::Noise => panel::NOISE,
         };
         assert_eq!(panel::judge(number), expected, "frame {number:03X}");
     }
+}
+
+#[test]
+fn worked_frames() {
+    for number in [2047, 1023] {
+        assert_eq!(panel::judge(number), 258, "frame {number}");
+    }
+    for number in [1022, 2048, 2049, 65_534, 65_535] {
+        assert_eq!(panel::judge(number), 257, "frame {number}");
+    }
+    assert_eq!(panel::judge(0x428), 256);
+    assert_eq!(panel::judge(0x7E0), 0xF0);
+    assert_eq!(panel::judge(0x628), 0x14);
+}
+
+/// Past the frames every number is broken, odd ones too.
+#[test]
+fn verdicts_in_number() {
+    let count = |wanted: fn(u16) -> bool| {
+        let judged = (0..=u16::MAX).map(panel::judge);
+        judged.filter(|&verdict| wanted(verdict)).count()
+    };
+    assert_eq!(count(|verdict| verdict <= 0xFF), 256);
+    assert_eq!(count(|verdict| verdict == 256), 256);
+    assert_eq!(count(|verdict| verdict == 257), 512 + 63_488);
+    assert_eq!(count(|verdict| verdict == 258), 1024);
 }
 
 #[test]

@@ -44,6 +44,9 @@ fn assert_reached(coverage: &PairCoverage) {
         (coverage.reopened_apart, 30, "opened so more than once"),
         (coverage.refused_apart, 25, "different keys refused"),
         (coverage.key_turned, 40, "mouse frames with the key turned"),
+        (coverage.noise_within, 40, "noise within different codes"),
+        (coverage.noise_progressed_apart, 20, "noise with one ahead"),
+        (coverage.opened_over_noise, 25, "opened with noise between"),
     ];
     for (count, percent, what) in wanted {
         let share = count * 100 / coverage.pairs;

@@ -6,6 +6,8 @@ pub enum Verdict {
     Sound(u8),
     WrongParity,
     Broken,
+    /// The start bit is wrong: a disturbance of the line.
+    Noise,
 }
 
 const START: u16 = 1;
@@ -21,10 +23,17 @@ pub fn frame(byte: u8) -> u16 {
     STOP | parity | u16::from(byte) << 1
 }
 
-/// Start and stop are looked at before parity. A number of more than eleven
-/// bits is no frame, so it counts as broken.
+/// The start bit is looked at first, then the stop bit, then parity. A number
+/// of more than eleven bits is no frame, so it counts as broken whatever its
+/// bits.
 pub fn judge(frame: u16) -> Verdict {
-    if frame > LARGEST || frame & START != 0 || frame & STOP == 0 {
+    if frame > LARGEST {
+        return Verdict::Broken;
+    }
+    if frame & START != 0 {
+        return Verdict::Noise;
+    }
+    if frame & STOP == 0 {
         return Verdict::Broken;
     }
     if (frame & DATA_AND_PARITY).count_ones().is_multiple_of(2) {

@@ -7,21 +7,31 @@ use crate::translation::translate;
 /// Put in place of a byte that arrived damaged.
 const DAMAGED: u8 = 0xFF;
 
+/// What a frame brings, noise apart.
+enum Arrival {
+    Byte(u8),
+    Damage,
+}
+
 impl Controller {
-    /// Notes the errors of a frame; the byte of a sound one.
-    fn check_frame(&mut self, frame: u16) -> Option<u8> {
-        let verdict = judge(frame);
-        self.set_errors(verdict == Verdict::Broken, verdict == Verdict::WrongParity);
-        match verdict {
-            Verdict::Sound(byte) => Some(byte),
-            _ => None,
-        }
+    /// Notes the errors of a frame and tells what it brings. Noise brings
+    /// nothing and leaves the errors.
+    fn check_frame(&mut self, frame: u16) -> Option<Arrival> {
+        let (arrival, timeout, parity) = match judge(frame) {
+            Verdict::Noise => return None,
+            Verdict::Sound(byte) => (Arrival::Byte(byte), false, false),
+            Verdict::Broken => (Arrival::Damage, true, false),
+            Verdict::WrongParity => (Arrival::Damage, false, true),
+        };
+        self.set_errors(timeout, parity);
+        Some(arrival)
     }
 
     pub(crate) fn keyboard_frame(&mut self, frame: u16) {
         match self.check_frame(frame) {
-            Some(byte) => self.keyboard_byte(byte),
-            None => self.keyboard_damage(),
+            Some(Arrival::Byte(byte)) => self.keyboard_byte(byte),
+            Some(Arrival::Damage) => self.keyboard_damage(),
+            None => {}
         }
     }
 
@@ -60,7 +70,11 @@ impl Controller {
     }
 
     pub(crate) fn mouse_frame(&mut self, frame: u16) {
-        let byte = self.check_frame(frame).unwrap_or(DAMAGED);
+        let byte = match self.check_frame(frame) {
+            Some(Arrival::Byte(byte)) => byte,
+            Some(Arrival::Damage) => DAMAGED,
+            None => return,
+        };
         if !self.locked && !self.mouse_inhibited() {
             self.put(byte, Device::Mouse);
         }

@@ -5,7 +5,7 @@ mod host;
 use host::Host;
 use model::mode;
 
-const BROKEN: u16 = 2047;
+const BROKEN: u16 = 1022;
 const WRONG_PARITY: u16 = 0x428;
 
 #[test]
@@ -64,4 +64,5 @@ fn frames_are_refused_when_off_full_or_sending() {
     host.command_with(0xD4, 0x00);
     assert_eq!(host.event(4, 0x628).refusal, 5);
     assert_eq!(host.event(4, 2048).refusal, 2);
+    assert_eq!(host.event(4, 2049).refusal, 2);
 }

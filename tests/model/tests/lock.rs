@@ -3,13 +3,14 @@
 mod host;
 
 use host::Host;
+use model::mode;
 
 /// 1Eh 30h, which the keys 1Ch 32h give.
 const CODE: [u8; 2] = [0x1E, 0x30];
 const FIRST: u8 = 0x1C;
 const SECOND: u8 = 0x32;
 const OTHER: u8 = 0x21;
-const BROKEN: u16 = 2047;
+const BROKEN: u16 = 1022;
 const WRONG_PARITY: u16 = 0x428;
 
 #[test]
@@ -124,6 +125,92 @@ fn damage_starts_over_under_inhibit_too() {
     host.pins(0x7F);
     assert_eq!(host.keyboard_frame(BROKEN).status & 1, 0);
     assert_eq!(host.state.position, 0);
+}
+
+#[test]
+fn noise_between_the_keys_leaves_the_position() {
+    for kind in [4, 5] {
+        let mut host = Host::locked_with(&CODE);
+        host.key(FIRST);
+        host.assert_noise_does_nothing(kind);
+        assert_eq!(host.state.position, 1);
+        host.key(SECOND);
+        assert!(!host.state.locked);
+    }
+}
+
+#[test]
+fn noise_is_no_try() {
+    let mut host = Host::locked_with(&CODE);
+    // The right keys but for the start bit.
+    for key in [FIRST, SECOND] {
+        host.keyboard_frame(model::frame(key) | 1);
+    }
+    assert!(host.state.locked);
+    assert_eq!(host.state.position, 0);
+    host.assert_noise_does_nothing(4);
+    host.keys(&[FIRST, OTHER]);
+    host.assert_noise_does_nothing(4);
+    host.key(SECOND);
+    assert!(host.state.locked);
+}
+
+#[test]
+fn noise_in_a_locked_break_sequence_leaves_it() {
+    for kind in [4, 5] {
+        let mut host = Host::locked_with(&CODE);
+        host.keys(&[FIRST, 0xF0]);
+        host.assert_noise_does_nothing(kind);
+        assert!(host.state.break_flag);
+        // A break code is ignored, so the second key is still to come.
+        host.keys(&[OTHER, SECOND]);
+        assert!(!host.state.locked);
+    }
+}
+
+#[test]
+fn noise_under_inhibit_leaves_the_position() {
+    for bits in [0, mode::INHIBIT_OVERRIDE] {
+        for kind in [4, 5] {
+            let mut host = Host::ready();
+            host.command_with(0x60, bits);
+            host.lock(&CODE);
+            host.key(FIRST);
+            host.pins(0x7F);
+            host.assert_noise_does_nothing(kind);
+            host.pins(0xFF);
+            host.key(SECOND);
+            assert!(!host.state.locked);
+        }
+    }
+}
+
+#[test]
+fn noise_at_the_lock_leaves_the_errors_of_the_mouse() {
+    for (damaged, errors) in [(BROKEN, 0x40), (WRONG_PARITY, 0x80)] {
+        for kind in [4, 5] {
+            let mut host = Host::locked_with(&CODE);
+            host.key(FIRST);
+            host.mouse_frame(damaged);
+            host.assert_noise_does_nothing(kind);
+            assert_eq!(host.status().status & 0xC1, errors);
+            host.key(SECOND);
+            assert!(!host.state.locked);
+        }
+    }
+}
+
+#[test]
+fn noise_is_refused_while_a_notice_waits() {
+    let mut host = Host::ready();
+    host.command_with(0x73, 0xC3);
+    host.lock(&CODE);
+    host.assert_noise_is_refused(4);
+    host.assert_noise_is_refused(5);
+    assert_eq!(host.read().byte, 0xC3);
+    host.assert_noise_does_nothing(4);
+    host.keys(&[FIRST, SECOND]);
+    assert!(!host.state.locked);
 }
 
 #[test]

@@ -7,6 +7,7 @@ use model::{Settings, mode};
 
 const BROKEN: u16 = 0x228;
 const WRONG_PARITY: u16 = 0x428;
+const NOISE: u16 = 0x629;
 /// P1 with the key switch turned.
 const TURNED: u8 = 0x7F;
 
@@ -46,6 +47,50 @@ fn damaged_mouse_frames_change_the_errors_and_put_nothing() {
     assert_kept_back(&mut host, BROKEN, 0x40);
     assert_kept_back(&mut host, 0x628, 0);
     assert_eq!(host.read().old, 1);
+}
+
+#[test]
+fn noise_leaves_the_errors_with_the_key_either_way() {
+    for pins in [0xFF, TURNED] {
+        for (frame, errors) in [(BROKEN, 0x40), (WRONG_PARITY, 0x80), (0x628, 0)] {
+            for kind in [4, 5] {
+                let mut host = with_mouse_lock();
+                host.mouse_frame(frame);
+                host.read();
+                host.pins(pins);
+                host.assert_noise_does_nothing(kind);
+                assert_eq!(host.status().status & 0xE1, errors, "frame {frame:03X}");
+            }
+        }
+    }
+}
+
+#[test]
+fn noise_leaves_the_errors_with_the_override_on() {
+    let mut host = with_mouse_lock();
+    host.command_with(0x60, mode::INHIBIT_OVERRIDE | mode::TRANSLATE);
+    host.pins(TURNED);
+    host.mouse_frame(BROKEN);
+    host.assert_noise_does_nothing(4);
+    host.assert_noise_does_nothing(5);
+    assert_kept_back(&mut host, WRONG_PARITY, 0x80);
+    host.assert_noise_does_nothing(4);
+    host.assert_noise_does_nothing(5);
+}
+
+#[test]
+fn a_turned_key_refuses_noise_for_the_usual_reasons() {
+    let mut host = turned();
+    host.command_with(0xD3, 0x55);
+    host.assert_noise_is_refused(4);
+    host.assert_noise_is_refused(5);
+    assert_eq!(host.read().byte, 0x55);
+    host.command_with(0xD4, 0xF4);
+    host.assert_noise_is_refused(5);
+    host.taken();
+    host.command(0xA7);
+    host.assert_noise_is_refused(5);
+    host.assert_noise_does_nothing(4);
 }
 
 #[test]
@@ -90,7 +135,7 @@ fn break_flag_and_position_stay() {
     host.key(0x1C);
     host.pins(TURNED);
     host.key(0xF0);
-    for frame in [0x628, BROKEN, WRONG_PARITY] {
+    for frame in [0x628, BROKEN, WRONG_PARITY, NOISE] {
         host.mouse_frame(frame);
         assert!(host.state.break_flag);
         assert_eq!(host.state.position, 1);
@@ -106,6 +151,7 @@ fn a_closed_lock_keeps_the_mouse_back_with_the_key_either_way() {
         assert_kept_back(&mut host, 0x628, 0);
         assert_kept_back(&mut host, BROKEN, 0x40);
         assert_kept_back(&mut host, WRONG_PARITY, 0x80);
+        assert_kept_back(&mut host, NOISE, 0x80);
     }
 }
 

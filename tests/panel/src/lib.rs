@@ -12,6 +12,7 @@ pub const MOUSE_LOCK: u8 = 1;
 /// What `judge` answers for a frame that is not sound.
 pub const WRONG_PARITY: u16 = 256;
 pub const BROKEN: u16 = 257;
+pub const NOISE: u16 = 258;
 
 /// Runs a list from fresh and hands back the refusal number.
 pub fn run(options: u8, list: &[u8], answers: &mut [u8]) -> u8 {
@@ -51,7 +52,7 @@ pub fn find(image: &[u8]) -> usize {
     unsafe { ffi::calugnid_find(image.as_ptr(), image.len()) }
 }
 
-/// The byte of a sound frame, `WRONG_PARITY` or `BROKEN`.
+/// The byte of a sound frame, `WRONG_PARITY`, `BROKEN` or `NOISE`.
 pub fn judge(frame: u16) -> u16 {
     // SAFETY: only a number is passed.
     unsafe { ffi::calugnid_judge(frame) }

@@ -7,7 +7,7 @@ use mathlib.Core.Bool.{Bool, true, false, cond, _||_, or-true, false≢true}
 use lib.Dec.{eqb, ltb}
 use lib.ListN.{length, getD, length-append}
 use borrow.Author.Tests.{eqb-true}
-use Rattle.translation.specs.Frames.{Check, sound, parity, broken, check}
+use Rattle.translation.specs.Frames.{Check, sound, parity, broken, noise, check}
 use Rattle.translation.specs.ScanCodes.{Translation, Yielded, nothing, byte, code, builtIn}
 use Rattle.translation.proofs.ScanCodes.{translate-other}
 use Rattle.translation.proofs.Tests.{split}
@@ -180,6 +180,7 @@ unfolding keyboardFrame
 keyboardFrame-alike (sound b) h together = soundKey-alike b h together
 keyboardFrame-alike parity h together = damagedKey-alike false true h
 keyboardFrame-alike broken h together = damagedKey-alike true false h
+keyboardFrame-alike noise h together = h
 
 -- While locked, each byte but F0h is a try.
 soundKey-locked : (b : ℕ) (m : Machine) → m .plain .locked ≡ true → (b ≡ 0xF0 → ⊥)

@@ -7,7 +7,7 @@ use native.Mathlib.Omega.{arith}
 use lib.Dec.{eqb}
 use lib.ListN.{length}
 use borrow.Author.Tests.{eqb-false}
-use Rattle.translation.specs.Frames.{Check, sound, parity, broken}
+use Rattle.translation.specs.Frames.{Check, sound, parity, broken, noise}
 use Rattle.translation.specs.ScanCodes.{Translation, Yielded, nothing, byte, raw}
 use Rattle.translation.proofs.ScanCodes.{translate-builtIn-below}
 use Rattle.machine.specs.State.{Public, Machine, lift}
@@ -79,6 +79,7 @@ unfolding keyboardFrame
 keyboardFrame-kept k (sound b) small = soundKey-kept k b (small b refl)
 keyboardFrame-kept k parity small = damagedKey-kept k false true
 keyboardFrame-kept k broken small = damagedKey-kept k true false
+keyboardFrame-kept k noise small = k
 
 -- ---- mousePut, mouseFrame
 pub mousePut-kept : {m : Machine} → Kept m → (b : ℕ) → b < 256 → Kept (lift (mousePut b) m)
@@ -91,6 +92,7 @@ unfolding mouseFrame
 mouseFrame-kept k (sound b) small = mousePut-kept (withErrors-kept k _) b (small b refl)
 mouseFrame-kept k parity small = mousePut-kept (withErrors-kept k _) 0xFF (omega arith)
 mouseFrame-kept k broken small = mousePut-kept (withErrors-kept k _) 0xFF (omega arith)
+mouseFrame-kept k noise small = k
 
 module _ {m : Machine} (k : Kept m) where
   -- ---- idle, taken, timedOut

@@ -3,7 +3,7 @@ use Prim.Native.Nat.{ℕ}
 use mathlib.Core.Path.{_≡_, refl, _∙_}
 use mathlib.Core.Bool.{Bool, true, false, cond}
 use mathlib.Core.List.{List, [], _∷_}
-use Rattle.translation.specs.Frames.{Check, sound, parity, broken}
+use Rattle.translation.specs.Frames.{Check, sound, parity, broken, noise}
 use Rattle.translation.specs.ScanCodes.{Yielded, nothing, byte}
 use Rattle.machine.specs.Settings.{Settings}
 use Rattle.machine.specs.State.{Public, Machine, fresh}
@@ -64,6 +64,7 @@ unfolding mouseFrame
 mouseFrame-settings (sound b) p = mousePut-settings _ b
 mouseFrame-settings parity p = mousePut-settings _ 0xFF
 mouseFrame-settings broken p = mousePut-settings _ 0xFF
+mouseFrame-settings noise p = refl
 
 -- ---- rules of the machine
 module _ (m : Machine) where
@@ -101,6 +102,7 @@ unfolding keyboardFrame soundKey
 keyboardFrame-settings (sound b) m = keyed-settings _ _
 keyboardFrame-settings parity m = keyError-settings _
 keyboardFrame-settings broken m = keyError-settings _
+keyboardFrame-settings noise m = refl
 
 accept-settings : (m : Machine) (e : Event) → accept m e .plain .settings ≡ m .plain .settings
 unfolding accept

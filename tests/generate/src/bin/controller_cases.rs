@@ -92,4 +92,5 @@ fn main() {
     cases::lock();
     cases::frames();
     cases::mouse_lock();
+    cases::noise();
 }

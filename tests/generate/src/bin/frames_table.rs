@@ -10,6 +10,7 @@ fn print_frames(out: &mut impl Write) -> io::Result<()> {
             Verdict::Sound(byte) => writeln!(out, "sound {byte:02X}")?,
             Verdict::WrongParity => writeln!(out, "parity")?,
             Verdict::Broken => writeln!(out, "broken")?,
+            Verdict::Noise => writeln!(out, "noise")?,
         }
     }
     Ok(())

@@ -141,6 +141,28 @@ impl Host {
         self.data(0);
     }
 
+    /// Every noise frame of a kind: accepted, with the lines as they stand and
+    /// nothing changed.
+    pub fn assert_noise_does_nothing(&mut self, kind: u8) {
+        self.assert_noise_is_answered(kind, 0);
+    }
+
+    /// Every noise frame of a kind: refused by 5, with nothing changed.
+    pub fn assert_noise_is_refused(&mut self, kind: u8) {
+        self.assert_noise_is_answered(kind, 5);
+    }
+
+    fn assert_noise_is_answered(&mut self, kind: u8, refusal: u8) {
+        let before = self.state.clone();
+        let mut expected = before.lines();
+        expected[0] = refusal;
+        for value in (1..0x800).step_by(2) {
+            let answer = self.state.event(kind, value);
+            assert_eq!(answer, expected, "kind {kind} value {value:03X}");
+            assert_eq!(self.state, before, "kind {kind} value {value:03X}");
+        }
+    }
+
     /// FAh with a password, F1h without.
     pub fn password_test(&mut self) -> u8 {
         self.command(0xA4);

@@ -2,7 +2,7 @@
 -- Assumes nothing.
 use borrow.Author.Needs.{needs}
 use Rattle.machine.specs.Frames.{keyboardFrame}
-use Rattle.machine.proofs.Laws.Changed.{by-rule}
+use Rattle.machine.proofs.Laws.Changed.{by-rule, untouched}
 use Rattle.devices.proofs.keyboard.keyboard_frame.Statement.{statement}
 use Rattle.devices.proofs.keyboard.keyboard_frame.Tie as tie
 
@@ -24,6 +24,9 @@ enum-told-2 c = search needs
 damaged-key-requires-2 : tie.Need-damaged-key-requires-2
 damaged-key-requires-2 c κs = search needs
 
+enum-told-3 : tie.Need-enum-told-3
+enum-told-3 c = search needs
+
 returns : tie.Need-returns
 unfolding keyboardFrame
 returns c = by-rule (c .sound-key .ensures) (simp (c .before .before .before .v .given .1))
@@ -36,6 +39,10 @@ returns-3 : tie.Need-returns-3
 unfolding keyboardFrame
 returns-3 c = by-rule (c .damaged-key2 .ensures) (simp (c .before .before .enum-told2 .given .1))
 
+returns-4 : tie.Need-returns-4
+unfolding keyboardFrame
+returns-4 c = untouched (simp (c .enum-told3 .given .1))
+
 pub keyboard-frame-spec : {M : Type 1} → statement M
 keyboard-frame-spec =
     tie.close
@@ -46,6 +53,8 @@ keyboard-frame-spec =
     damaged-key-requires
     enum-told-2
     damaged-key-requires-2
+    enum-told-3
     returns
     returns-2
-    returns-3)
+    returns-3
+    returns-4)

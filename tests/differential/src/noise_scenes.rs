@@ -1,0 +1,336 @@
+//! States that noise could spoil, made by events, and what comes after them.
+
+use crate::event::{Event, kind};
+use model::{Controller, Device, Pending, Settings, mode};
+
+const BROKEN: u16 = 1022;
+const WRONG_PARITY: u16 = 0x428;
+/// P1 with the key switch turned.
+const TURNED: u8 = 0x7F;
+/// What the lock puts when it opens.
+const OPENED: u8 = 0x99;
+
+/// A byte that a read gives, and its old mark.
+pub type Read = [u8; 2];
+
+type Holds = fn(&Controller) -> bool;
+
+pub struct Scene {
+    pub name: &'static str,
+    /// The events that lead there, each of them accepted.
+    pub before: Vec<Event>,
+    /// What must then hold.
+    pub holds: Holds,
+    /// What refuses noise of the keyboard, and of the mouse.
+    pub refusals: [u8; 2],
+    /// What comes next, accepted too.
+    pub next: Vec<Event>,
+    /// What the reads of port 60h among it give.
+    pub reads: Vec<Read>,
+}
+
+pub fn scenes(settings: Settings) -> Vec<Scene> {
+    let mut all = waiting();
+    all.extend(errors());
+    all.extend(breaks());
+    all.extend(sending());
+    all.extend(off());
+    all.extend(pending());
+    all.extend(within_a_code());
+    all.push(key_turned(settings));
+    all.push(notice());
+    all
+}
+
+fn keyboard(value: u16) -> Event {
+    Event::new(kind::KEYBOARD_FRAME, value)
+}
+
+fn mouse(value: u16) -> Event {
+    Event::new(kind::MOUSE_FRAME, value)
+}
+
+fn write(command: u8, data: u8) -> [Event; 2] {
+    [Event::command(command), Event::data(data)]
+}
+
+/// Both devices switched on, then the given events.
+fn on(events: &[Event]) -> Vec<Event> {
+    let on = [Event::command(0xAE), Event::command(0xA8)];
+    [&on, events].concat()
+}
+
+/// The key 1Ch and a read of what it gives.
+fn key_and_read() -> Vec<Event> {
+    vec![Event::key(0x1C), Event::read()]
+}
+
+fn waiting() -> Vec<Scene> {
+    let scene = |name, event, byte| Scene {
+        name,
+        before: on(&[event]),
+        holds: |state| state.full,
+        refusals: [5, 5],
+        next: vec![Event::status(), Event::read()],
+        reads: vec![[byte, 0]],
+    };
+    vec![
+        scene("a key waits", Event::key(0x1C), 0x1E),
+        scene("a mouse byte waits", Event::mouse(0x14), 0x14),
+        scene("FFh of the keyboard waits", keyboard(BROKEN), 0xFF),
+        scene("FFh of the mouse waits", mouse(WRONG_PARITY), 0xFF),
+    ]
+}
+
+fn errors() -> Vec<Scene> {
+    let scene = |name, events: &[Event], byte, holds: Holds| Scene {
+        name,
+        before: [on(events), vec![Event::read()]].concat(),
+        holds,
+        refusals: [0, 0],
+        next: [vec![Event::status(), Event::read()], key_and_read()].concat(),
+        reads: vec![[byte, 1], [0x1E, 0]],
+    };
+    let time_out = [Event::data(0xED), Event::new(kind::BYTE_TIMED_OUT, 0)];
+    let terr: Holds = |state| state.timeout_error;
+    let perr: Holds = |state| state.parity_error;
+    vec![
+        scene("TERR by the keyboard", &[keyboard(BROKEN)], 0xFF, terr),
+        scene("TERR by the mouse", &[mouse(BROKEN)], 0xFF, terr),
+        scene("TERR by a time-out", &time_out, 0xFE, terr),
+        scene(
+            "PERR by the keyboard",
+            &[keyboard(WRONG_PARITY)],
+            0xFF,
+            perr,
+        ),
+        scene("PERR by the mouse", &[mouse(WRONG_PARITY)], 0xFF, perr),
+    ]
+}
+
+/// F0h has come. The key after it gives a break code.
+fn breaks() -> Vec<Scene> {
+    let prefix = Event::key(0xF0);
+    let turned = Event::pins(TURNED);
+    let untranslated = write(0x60, 0);
+    let scene = |name, before, first: &[Event]| Scene {
+        name,
+        before,
+        holds: |state| state.break_flag,
+        refusals: [0, 0],
+        next: [first, &key_and_read()].concat(),
+        reads: vec![[0x9E, 0]],
+    };
+    vec![
+        scene("after F0h", on(&[prefix]), &[]),
+        scene(
+            "after F0h, untranslated",
+            on(&[&[prefix], &untranslated[..]].concat()),
+            &write(0x60, mode::TRANSLATE),
+        ),
+        scene(
+            "after F0h, inhibited",
+            on(&[turned, prefix]),
+            &[Event::pins(0xFF)],
+        ),
+        scene(
+            "after F0h, inhibit overridden",
+            [
+                &write(0x60, mode::TRANSLATE | mode::INHIBIT_OVERRIDE)[..],
+                &[turned, prefix],
+            ]
+            .concat(),
+            &[],
+        ),
+    ]
+}
+
+fn sending() -> Vec<Scene> {
+    let scene = |name, events: &[Event], holds: Holds, end, first| Scene {
+        name,
+        before: on(events),
+        holds,
+        refusals: [5, 5],
+        next: vec![
+            Event::new(end, 0),
+            Event::read(),
+            Event::mouse(0x14),
+            Event::read(),
+        ],
+        reads: vec![first, [0x14, 0]],
+    };
+    vec![
+        scene(
+            "sending to the keyboard",
+            &[Event::data(0xED)],
+            |state| matches!(state.sending, Some((Device::Keyboard, 0xED))),
+            kind::BYTE_TAKEN,
+            [0, 1],
+        ),
+        scene(
+            "sending to the mouse",
+            &write(0xD4, 0xF4),
+            |state| matches!(state.sending, Some((Device::Mouse, 0xF4))),
+            kind::BYTE_TIMED_OUT,
+            [0xFE, 0],
+        ),
+    ]
+}
+
+fn off() -> Vec<Scene> {
+    let scene = |name, before: &[Event], refusals| Scene {
+        name,
+        before: before.to_vec(),
+        holds: |state| !state.full && state.sending.is_none(),
+        refusals,
+        next: on(&key_and_read()),
+        reads: vec![[0x1E, 0]],
+    };
+    vec![
+        scene("both devices off", &[], [5, 5]),
+        scene("the mouse off", &[Event::command(0xAE)], [0, 5]),
+        scene("the keyboard off", &[Event::command(0xA8)], [5, 0]),
+    ]
+}
+
+fn pending() -> Vec<Scene> {
+    let rest_of_code = [Event::data(0x30), Event::data(0), Event::command(0xA6)];
+    let keys = [Event::key(0x1C), Event::key(0x32)];
+    vec![
+        Scene {
+            name: "a code being loaded",
+            before: on(&write(0xA5, 0x1E)),
+            holds: |state| state.pending == Pending::Password,
+            refusals: [0, 0],
+            // The code is whole, so its keys open, and the next key is put.
+            next: [&rest_of_code[..], &keys, &key_and_read()].concat(),
+            reads: vec![[0x1E, 0]],
+        },
+        Scene {
+            name: "a byte to be put",
+            before: on(&[Event::command(0xD2)]),
+            holds: |state| state.pending == Pending::Output,
+            refusals: [0, 0],
+            next: vec![Event::data(0x77), Event::read()],
+            reads: vec![[0x77, 0]],
+        },
+        Scene {
+            name: "an overlay",
+            before: on(&[Event::pins(0xA5), Event::command(0xC1)]),
+            holds: |state| state.overlay == Some(5),
+            refusals: [0, 0],
+            next: [vec![Event::status()], key_and_read()].concat(),
+            reads: vec![[0x1E, 0]],
+        },
+    ]
+}
+
+/// Locked with 1Eh 30h 2Eh and a notice for when it opens.
+fn lock() -> Vec<Event> {
+    let code = [Event::data(0x30), Event::data(0x2E), Event::data(0)];
+    let notice = write(0x74, OPENED);
+    [
+        &notice[..],
+        &write(0xA5, 0x1E),
+        &code,
+        &[Event::command(0xA6)],
+    ]
+    .concat()
+}
+
+/// The first two keys have come, so that the third opens.
+fn within_a_code() -> Vec<Scene> {
+    let keys = [Event::key(0x1C), Event::key(0x32)];
+    let scene = |name, mode, then: &[Event], holds: Holds, next: &[Event]| Scene {
+        name,
+        before: [&write(0x60, mode)[..], &lock(), &keys, then].concat(),
+        holds,
+        refusals: [0, 0],
+        next: [next, &[Event::key(0x21), Event::read()]].concat(),
+        reads: vec![[OPENED, 0]],
+    };
+    let turned = [Event::pins(TURNED)];
+    let back = [Event::pins(0xFF)];
+    vec![
+        scene("within a code", mode::TRANSLATE, &[], within, &[]),
+        scene("within a code, untranslated", 0, &[], within, &[]),
+        scene(
+            "within a code, TERR by the mouse",
+            mode::TRANSLATE,
+            &[mouse(BROKEN)],
+            |state| within(state) && state.timeout_error,
+            &[],
+        ),
+        scene(
+            "within a code, PERR by the mouse",
+            mode::TRANSLATE,
+            &[mouse(WRONG_PARITY)],
+            |state| within(state) && state.parity_error,
+            &[],
+        ),
+        scene(
+            "within a code, after F0h",
+            mode::TRANSLATE,
+            &[Event::key(0xF0)],
+            |state| within(state) && state.break_flag,
+            // A break code is ignored.
+            &[Event::key(0x1C)],
+        ),
+        scene(
+            "within a code, inhibited",
+            mode::TRANSLATE,
+            &turned,
+            |state| within(state) && state.inhibited(),
+            &back,
+        ),
+        scene(
+            "within a code, inhibit overridden",
+            mode::TRANSLATE | mode::INHIBIT_OVERRIDE,
+            &turned,
+            |state| within(state) && state.key_turned(),
+            &[],
+        ),
+    ]
+}
+
+fn within(state: &Controller) -> bool {
+    state.locked && state.position == 2
+}
+
+/// The mouse has set an error before the key was turned. Its next byte is put
+/// unless the mouse lock keeps it back, and the one after the key is turned
+/// back is put in any case.
+fn key_turned(settings: Settings) -> Scene {
+    let before = [mouse(BROKEN), Event::read(), Event::pins(TURNED)];
+    let first = if settings.mouse_lock {
+        [0xFF, 1]
+    } else {
+        [0x14, 0]
+    };
+    Scene {
+        name: "the key turned, TERR by the mouse",
+        before: on(&before),
+        holds: |state| state.key_turned() && state.timeout_error,
+        refusals: [0, 0],
+        next: vec![
+            Event::mouse(0x14),
+            Event::read(),
+            Event::pins(0xFF),
+            Event::mouse(0x15),
+            Event::read(),
+        ],
+        reads: vec![first, [0x15, 0]],
+    }
+}
+
+fn notice() -> Scene {
+    let keys = [Event::key(0x1C), Event::key(0x32), Event::key(0x21)];
+    Scene {
+        name: "locked, its notice waits",
+        before: on(&[&write(0x73, 0xC3)[..], &lock()].concat()),
+        holds: |state| state.locked && state.full,
+        refusals: [5, 5],
+        next: [&[Event::read()], &keys[..], &[Event::read()]].concat(),
+        reads: vec![[0xC3, 0], [OPENED, 0]],
+    }
+}
