@@ -4,12 +4,13 @@
  * A controller is a state of CALUGNID_STATE_BYTES bytes that the caller keeps
  * and lends to each call. The library has no memory of its own, allocates
  * nothing and prints nothing. Make a state by calugnid_start or calugnid_load
- * and change it by calls only. On any other 61 bytes a call still ends and
+ * and change it by calls only. On any other 64 bytes a call still ends and
  * stays inside what it is lent, but its answers promise nothing.
  *
- * Settings, such as mouse lock, are named at the start and stand in the last
- * byte of the state. No event changes them. An image of edition 1 has no room
- * for them: a save leaves them out, and a load gives the ordinary settings.
+ * Settings, such as mouse lock and AT mode, are named at the start and stand
+ * in the state. No event changes them. An image of edition 1 has no room for
+ * them, nor for what AT mode adds: a save leaves them out, and a load gives
+ * the ordinary settings, which are those of PS/2 mode.
  *
  * What a caller owes:
  * - Pointers to valid memory of the size named, not null even where a length
@@ -25,8 +26,8 @@
  * - The byte read stands in the answer to the read. Take it before the next
  *   frame is fed: each event writes all nine bytes.
  * - A device keeps its frame until calugnid_refusal says 0 for it.
- * - A load gives the ordinary settings, and no call sets mouse lock on a
- *   controller that runs. A board that must not lose it does not load.
+ * - A load gives the ordinary settings, and no call sets mouse lock or AT mode
+ *   on a controller that runs. A board that must not lose them does not load.
  * - A frame that mouse lock keeps back is lost: the refusal is 0, so the mouse
  *   does not send it again. This holds for replies of the mouse too.
  * - A frame with a wrong start bit is noise. Feed it or drop it: the event
@@ -45,7 +46,7 @@ extern "C" {
 
 /* Sizes in bytes. */
 enum {
-    CALUGNID_STATE_BYTES = 61,
+    CALUGNID_STATE_BYTES = 64,
     CALUGNID_IMAGE_BYTES = 68,
     CALUGNID_EVENT_BYTES = 3,   /* in a list: kind, value low, value high */
     CALUGNID_ANSWER_BYTES = 9,
@@ -59,10 +60,17 @@ enum {
  * and changes the error bits as ever, but the host gets neither its byte nor
  * the FFh of a damaged frame. The inhibit override, bit 3 of the command byte,
  * is for the keyboard alone. The host still gets FEh for a byte to the mouse
- * that timed out. */
+ * that timed out.
+ *
+ * AT mode is the mode of PCs older than the PS/2. There is no mouse: its frames
+ * are refused by 12. Commands A4h-A9h, C1h, C2h and D2h-D4h do nothing, so
+ * there is no lock code either. D1h writes bits 0-3 and 5 of P2, F0h-FFh pulse
+ * bits 0-3, and E0h puts 1 in bit 0 and keyboard not off in bit 1. Status and
+ * P2 have other bits, see below. */
 enum {
-    CALUGNID_ORDINARY = 0,     /* none of the settings below */
-    CALUGNID_MOUSE_LOCK = 0x01 /* the key switch keeps the mouse back too */
+    CALUGNID_ORDINARY = 0,      /* none of the settings below */
+    CALUGNID_MOUSE_LOCK = 0x01, /* the key switch keeps the mouse back too */
+    CALUGNID_PC_AT = 0x02       /* AT mode, else PS/2 mode */
 };
 
 /* Kinds of events, and the largest value that each takes. */
@@ -78,7 +86,8 @@ enum {
     CALUGNID_PINS = 8            /* the input port P1; FFh */
 };
 
-/* Refusals: 1-6 of an event, 7-11 of a whole call. */
+/* Refusals: 1-6 and 12 of an event, 7-11 of a whole call. 12 is checked
+ * straight after 2. */
 enum {
     CALUGNID_ACCEPTED = 0,
     CALUGNID_BAD_KIND = 1,
@@ -91,7 +100,8 @@ enum {
     CALUGNID_NO_ROOM = 8,       /* under 9 answer bytes an event */
     CALUGNID_NO_SAVE_ROOM = 9,  /* under 68 bytes to save to */
     CALUGNID_BAD_IMAGE = 10,    /* too short, or mark, edition, distance or sum wrong */
-    CALUGNID_BAD_BODY = 11      /* a body rule broken */
+    CALUGNID_BAD_BODY = 11,     /* a body rule broken */
+    CALUGNID_NO_MOUSE = 12      /* a mouse frame in AT mode */
 };
 
 /* Where each of the nine answer bytes stands. Those from the status on, the
@@ -121,6 +131,12 @@ enum {
     CALUGNID_STATUS_PERR = 0x80    /* parity error */
 };
 
+/* Those that differ in AT mode. */
+enum {
+    CALUGNID_PC_AT_STATUS_TTIM = 0x20, /* transmit time-out: a byte timed out */
+    CALUGNID_PC_AT_STATUS_RTIM = 0x40  /* receive time-out: framing error */
+};
+
 /* Bits of the output port P2. */
 enum {
     CALUGNID_P2_P20 = 0x01,         /* the processor's reset on a PC, low when active */
@@ -129,6 +145,15 @@ enum {
     CALUGNID_P2_KIRQ = 0x10,        /* keyboard interrupt, IRQ 1 */
     CALUGNID_P2_MIRQ = 0x20,        /* mouse interrupt, IRQ 12 */
     CALUGNID_P2_KEYBOARD_OFF = 0x40
+};
+
+/* Those that differ in AT mode, where bit 4 is 1 with any unread byte while the
+ * keyboard interrupt is enabled. */
+enum {
+    CALUGNID_PC_AT_P2_P22 = 0x04, /* speed select; a latch, as the next two */
+    CALUGNID_PC_AT_P2_P23 = 0x08, /* shadow RAM */
+    CALUGNID_PC_AT_P2_P25 = 0x20,
+    CALUGNID_PC_AT_P2_P27 = 0x80  /* always 1 */
 };
 
 /* Destinations of the byte being sent. */
@@ -147,7 +172,7 @@ enum {
     CALUGNID_BREAK_FLAG = 0x200
 };
 
-/* ---- A controller that a board keeps: `state` is 61 bytes, `answer` is 9. */
+/* ---- A controller that a board keeps: `state` is 64 bytes, `answer` is 9. */
 
 /* Makes a fresh controller with the settings that `options` names. */
 void calugnid_start(uint8_t *state, uint8_t options);
@@ -168,7 +193,7 @@ void calugnid_run_fitting(uint8_t *state, const uint8_t *list, size_t list_lengt
                           uint8_t *answers, size_t answers_length);
 
 /* Saves to the first 68 bytes. The first 60 of these are the state's, which
- * leaves its settings out. 0 or 9. */
+ * leaves its settings out and what AT mode adds. 0 or 9. */
 uint8_t calugnid_save(const uint8_t *state, uint8_t *saved, size_t saved_length);
 
 /* Makes the controller of the image that stands at the end of `image`, with
@@ -180,7 +205,8 @@ uint8_t calugnid_load(uint8_t *state, const uint8_t *image, size_t image_length)
  * for refusal, byte read, old mark and pulse. */
 void calugnid_lines(const uint8_t *state, uint8_t *answer);
 
-/* The check, 1-6, that would refuse this event now, or 0. Nothing changes. */
+/* The check, 1-6 or 12, that would refuse this event now, or 0. Nothing
+ * changes. */
 uint8_t calugnid_refusal(const uint8_t *state, uint8_t kind, uint16_t value);
 
 /* The byte being sent, 0 with nobody. */

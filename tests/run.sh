@@ -34,7 +34,7 @@ by_model controller_cases | cmp - crates/controller_tests/stdout
 by_model image_cases | cmp - crates/image_tests/stdout
 
 mkdir -p "$programs"
-for source in tests/c/calls.c examples/self_test.c examples/board.c examples/mouse_lock.c; do
+for source in tests/c/calls.c examples/self_test.c examples/board.c examples/mouse_lock.c examples/at_mode.c; do
     build "$source"
 done
 for language in c cxx; do
@@ -42,6 +42,7 @@ for language in c cxx; do
     prints examples/self_test.expected "$programs/self_test_$language"
     prints examples/board.expected "$programs/board_$language"
     prints examples/mouse_lock.expected "$programs/mouse_lock_$language"
+    prints examples/at_mode.expected "$programs/at_mode_$language"
 done
 
 for events in examples/*.events; do

@@ -5,8 +5,9 @@
 
 #include "calugnid.h"
 
-/* The part of a state that an image holds. The byte after it is the options. */
-enum { BODY_BYTES = 60 };
+/* The part of a state that an image holds. The byte after it is the options,
+ * of which two bits are looked at. */
+enum { BODY_BYTES = 60, OPTION_CHOICES = 4 };
 
 /* The frame of 14h, the same with the other parity, one without a stop bit, and
  * all ones, where the start bit is wrong. */
@@ -110,10 +111,11 @@ static void try_starts(void)
     uint8_t state[CALUGNID_STATE_BYTES], fresh[CALUGNID_STATE_BYTES] = {0};
 
     fresh[2] = 0xFF;  /* P1 */
-    fresh[3] = 3;     /* both latches */
+    fresh[3] = 3;     /* P20 and P21 */
     fresh[28] = 0x70; /* command byte */
+    fresh[62] = 3;    /* P22 and P23, in AT mode */
     for (int options = 0; options < 256; options++) {
-        fresh[BODY_BYTES] = options % 2 == 1 ? CALUGNID_MOUSE_LOCK : CALUGNID_ORDINARY;
+        fresh[BODY_BYTES] = (uint8_t)(options % OPTION_CHOICES);
         memset(state, 0xA5, sizeof state);
         calugnid_start(state, (uint8_t)options);
         CHECK(memcmp(state, fresh, sizeof fresh) == 0);
@@ -121,7 +123,8 @@ static void try_starts(void)
 }
 
 /* Mouse on, key switch turned, a mouse frame, a read; and the answers with the
- * ordinary settings and with mouse lock. */
+ * ordinary settings, with mouse lock, and in AT mode, where the mouse is not
+ * switched on and its frame is refused by 12. */
 static const uint8_t turned[] = {3, 0xA8, 0, 8, 0x7F, 0, 5, 0x28, 6, 0, 0, 0};
 static const uint8_t shown[] = {
     0, 0x00, 0, 0x18, 0x43, 0, 0, 0, 0,
@@ -136,12 +139,20 @@ static const uint8_t kept_back[] = {
     0, 0x00, 1, 0x08, 0x43, 0, 0, 0, 0,
 };
 
+static const uint8_t no_mouse[] = {
+    0, 0x00, 0, 0x18, 0xCF, 0, 0, 0, 0,
+    0, 0x00, 0, 0x08, 0xCF, 0, 0, 0, 0,
+    12, 0x00, 0, 0x08, 0xCF, 0, 0, 0, 0,
+    0, 0x00, 1, 0x08, 0xCF, 0, 0, 0, 0,
+};
+static const uint8_t *const by_option[OPTION_CHOICES] = {shown, kept_back, no_mouse, no_mouse};
+
 static void try_lists_with_options(void)
 {
     uint8_t state[CALUGNID_STATE_BYTES], answers[sizeof shown];
 
     for (int options = 0; options < 256; options++) {
-        const uint8_t *right = options % 2 == 1 ? kept_back : shown;
+        const uint8_t *right = by_option[options % OPTION_CHOICES];
 
         memset(answers, 0xA5, sizeof answers);
         CHECK(calugnid_run((uint8_t)options, turned, sizeof turned, answers, 36) == 0);
@@ -314,7 +325,7 @@ static bool noises_leave(uint8_t *state, uint8_t refusal)
 }
 
 /* Noise leaves error bits, break flag and an unread byte, and is refused where
- * any frame is. The options make no difference. */
+ * any frame is. In PS/2 mode the options make no difference. */
 static void try_noise(uint8_t options)
 {
     uint8_t state[CALUGNID_STATE_BYTES], answer[CALUGNID_ANSWER_BYTES];
@@ -372,6 +383,165 @@ static void try_noise_while_locked(uint8_t options)
     CHECK(calugnid_refusal(state, CALUGNID_WRITE_COMMAND, 0xA4) == CALUGNID_ACCEPTED);
 }
 
+/* In AT mode noise of the mouse is refused as every frame of it is. */
+static bool noises_leave_pc_at(uint8_t *state, uint8_t refusal)
+{
+    return noise_leaves(state, CALUGNID_KEYBOARD_FRAME, refusal) &&
+           noise_leaves(state, CALUGNID_MOUSE_FRAME, CALUGNID_NO_MOUSE);
+}
+
+/* A controller in AT mode with the keyboard on. The mouse cannot be. */
+static void start_pc_at(uint8_t *state, uint8_t options)
+{
+    static const uint8_t fresh[] = {0, 0, 0, 0x10, 0xCF, 0, 0, 0, 0};
+    uint8_t answer[CALUGNID_ANSWER_BYTES];
+
+    calugnid_start(state, options);
+    calugnid_lines(state, answer);
+    CHECK(memcmp(answer, fresh, sizeof fresh) == 0);
+    CHECK(leaves(state, CALUGNID_WRITE_COMMAND, 0xAE, 0x18, 0x8F));
+    CHECK(leaves(state, CALUGNID_WRITE_COMMAND, 0xA8, 0x18, 0x8F));
+}
+
+/* Whether D4h and a data byte send to the keyboard, the byte times out, and the
+ * host reads FEh. The command byte has the keyboard's interrupt off. */
+static bool times_out(uint8_t *state)
+{
+    uint8_t answer[CALUGNID_ANSWER_BYTES];
+
+    calugnid_event(state, CALUGNID_WRITE_COMMAND, 0xD4, answer);
+    calugnid_event(state, CALUGNID_WRITE_DATA, 0xF4, answer);
+    return answer[CALUGNID_AT_REFUSAL] == CALUGNID_ACCEPTED &&
+           answer[CALUGNID_AT_DESTINATION] == CALUGNID_TO_KEYBOARD &&
+           leaves(state, CALUGNID_BYTE_TIMED_OUT, 0, 0x31, 0x8F) && reads(state, 0xFE, false);
+}
+
+/* Each of the three error bits by itself: a byte that timed out is bit 5, a
+ * framing error 6, a parity error 7; the next of them clears the others. */
+static void try_pc_at_errors(uint8_t options)
+{
+    uint8_t state[CALUGNID_STATE_BYTES], answer[CALUGNID_ANSWER_BYTES];
+
+    start_pc_at(state, options);
+    CHECK(times_out(state));
+    CHECK(noises_leave_pc_at(state, CALUGNID_ACCEPTED));
+    CHECK(leaves(state, CALUGNID_KEYBOARD_FRAME, BROKEN, 0x51, 0x8F));
+    CHECK(noises_leave_pc_at(state, CALUGNID_NOT_READY)); /* FFh waits */
+    CHECK(reads(state, 0xFF, false));
+    CHECK(times_out(state));
+    CHECK(leaves(state, CALUGNID_KEYBOARD_FRAME, WRONG_PARITY, 0x91, 0x8F));
+    CHECK(reads(state, 0xFF, false));
+    CHECK(times_out(state));
+    CHECK(leaves(state, CALUGNID_KEYBOARD_FRAME, SOUND, 0x11, 0x8F));
+    CHECK(reads(state, 0x1D, false));
+    CHECK(times_out(state));
+    calugnid_event(state, CALUGNID_WRITE_DATA, 0xF4, answer);
+    CHECK(answer[CALUGNID_AT_STATUS] == 0x32);
+    CHECK(leaves(state, CALUGNID_BYTE_TAKEN, 0, 0x10, 0x8F));
+}
+
+/* A mouse frame is refused by 12 where another check would stand too, except 2.
+ * No state changes. */
+static void try_pc_at_mouse(uint8_t options)
+{
+    uint8_t state[CALUGNID_STATE_BYTES], answer[CALUGNID_ANSWER_BYTES];
+
+    start_pc_at(state, options);
+    CHECK(calugnid_refusal(state, CALUGNID_MOUSE_FRAME, SOUND) == CALUGNID_NO_MOUSE);
+    CHECK(calugnid_refusal(state, CALUGNID_MOUSE_FRAME, 0x7FF) == CALUGNID_NO_MOUSE);
+    CHECK(calugnid_refusal(state, CALUGNID_MOUSE_FRAME, 0x800) == CALUGNID_BAD_VALUE);
+    calugnid_event(state, CALUGNID_WRITE_DATA, 0xED, answer);
+    CHECK(calugnid_refusal(state, CALUGNID_MOUSE_FRAME, SOUND) == CALUGNID_NO_MOUSE);
+    CHECK(calugnid_refusal(state, CALUGNID_KEYBOARD_FRAME, SOUND) == CALUGNID_NOT_READY);
+    CHECK(leaves(state, CALUGNID_BYTE_TAKEN, 0, 0x10, 0x8F));
+    CHECK(leaves(state, CALUGNID_WRITE_COMMAND, 0x60, 0x18, 0x8F));
+    CHECK(leaves(state, CALUGNID_WRITE_DATA, 0x00, 0x10, 0x8F)); /* mouse on */
+    CHECK(calugnid_refusal(state, CALUGNID_MOUSE_FRAME, SOUND) == CALUGNID_NO_MOUSE);
+}
+
+/* Whether the command puts this byte and nothing else changes. */
+static bool puts_byte(uint8_t *state, uint8_t command, uint8_t byte, uint8_t p2)
+{
+    return leaves(state, CALUGNID_WRITE_COMMAND, command, 0x19, p2) && reads(state, byte, false);
+}
+
+/* The output port: five latches by D1h, none by pins; the rest of it, E0h, and
+ * lines pulsed. */
+static void try_pc_at_port(uint8_t options)
+{
+    uint8_t state[CALUGNID_STATE_BYTES], answer[CALUGNID_ANSWER_BYTES];
+
+    start_pc_at(state, options);
+    CHECK(leaves(state, CALUGNID_WRITE_COMMAND, 0xD1, 0x18, 0x8F));
+    CHECK(leaves(state, CALUGNID_WRITE_DATA, 0xFA, 0x10, 0xAA));
+    CHECK(leaves(state, CALUGNID_PINS, 0x80, 0x10, 0xAA));
+    CHECK(puts_byte(state, 0xD0, 0xAA, 0xAA));
+    CHECK(puts_byte(state, 0xE0, 0x03, 0xAA));
+    CHECK(leaves(state, CALUGNID_WRITE_COMMAND, 0xAD, 0x18, 0xEA));
+    CHECK(puts_byte(state, 0xE0, 0x01, 0xEA));
+    CHECK(leaves(state, CALUGNID_WRITE_COMMAND, 0xD1, 0x18, 0xEA));
+    CHECK(leaves(state, CALUGNID_WRITE_DATA, 0x15, 0x10, 0xC5));
+    CHECK(leaves(state, CALUGNID_WRITE_COMMAND, 0x60, 0x18, 0xC5));
+    CHECK(leaves(state, CALUGNID_WRITE_DATA, 0x21, 0x10, 0x85)); /* EKI */
+    CHECK(leaves(state, CALUGNID_KEYBOARD_FRAME, SOUND, 0x11, 0x95));
+    for (unsigned command = 0xF0; command <= 0xFF; command++) {
+        calugnid_event(state, CALUGNID_WRITE_COMMAND, (uint8_t)command, answer);
+        CHECK(answer[CALUGNID_AT_PULSE] == 0xFF - command && answer[CALUGNID_AT_P2] == 0x95);
+    }
+    CHECK(reads(state, 0x14, false));
+}
+
+/* In AT mode these commands do nothing but set C, and the next data byte goes
+ * to the keyboard. */
+static void try_pc_at_commands(uint8_t options)
+{
+    static const uint8_t commands[] = {0xA4, 0xA5, 0xA6, 0xA7, 0xA8, 0xA9,
+                                       0xC1, 0xC2, 0xD2, 0xD3, 0xD4};
+    uint8_t state[CALUGNID_STATE_BYTES], answer[CALUGNID_ANSWER_BYTES];
+
+    start_pc_at(state, options);
+    for (size_t i = 0; i < sizeof commands; i++) {
+        CHECK(leaves(state, CALUGNID_WRITE_COMMAND, 0x74, 0x18, 0x8F));
+        CHECK(leaves(state, CALUGNID_WRITE_COMMAND, commands[i], 0x18, 0x8F));
+        calugnid_event(state, CALUGNID_WRITE_DATA, 0x14, answer);
+        CHECK(answer[CALUGNID_AT_DESTINATION] == CALUGNID_TO_KEYBOARD);
+        CHECK(leaves(state, CALUGNID_BYTE_TAKEN, 0, 0x10, 0x8F));
+        CHECK(puts_byte(state, 0x34, 0x00, 0x8F)); /* cell 14h was not written */
+    }
+}
+
+/* An image has no room for what AT mode adds: a load gives PS/2 mode. */
+static void try_pc_at_images(uint8_t options)
+{
+    uint8_t state[CALUGNID_STATE_BYTES], before[CALUGNID_STATE_BYTES];
+    uint8_t image[CALUGNID_IMAGE_BYTES];
+
+    start_pc_at(state, options);
+    CHECK(times_out(state));
+    CHECK(leaves(state, CALUGNID_WRITE_COMMAND, 0xD1, 0x38, 0x8F));
+    CHECK(leaves(state, CALUGNID_WRITE_DATA, 0x22, 0x30, 0xA2));
+    CHECK(state[BODY_BYTES] == options % OPTION_CHOICES && state[62] == 0x08 && state[63] == 0x01);
+    CHECK(calugnid_save(state, image, sizeof image) == CALUGNID_ACCEPTED);
+    CHECK(memcmp(image, state, BODY_BYTES) == 0);
+    memcpy(before, state, sizeof state);
+    CHECK(calugnid_load(state, image, 67) == CALUGNID_BAD_IMAGE);
+    CHECK(memcmp(state, before, sizeof state) == 0);
+    CHECK(calugnid_load(state, image, sizeof image) == CALUGNID_ACCEPTED);
+    CHECK(memcmp(state, before, BODY_BYTES) == 0);
+    CHECK(state[BODY_BYTES] == CALUGNID_ORDINARY && state[62] == 0x03 && state[63] == 0x00);
+    CHECK(leaves(state, CALUGNID_PINS, 0xFF, 0x10, 0x0A));
+    CHECK(calugnid_refusal(state, CALUGNID_MOUSE_FRAME, SOUND) == CALUGNID_NOT_READY);
+}
+
+static void try_pc_at(uint8_t options)
+{
+    try_pc_at_errors(options);
+    try_pc_at_mouse(options);
+    try_pc_at_port(options);
+    try_pc_at_commands(options);
+    try_pc_at_images(options);
+}
+
 static void try_numbers(void)
 {
     CHECK(calugnid_frame(0x14) == 0x628);
@@ -402,6 +572,10 @@ int main(void)
     try_loads_with_mouse_lock();
     try_run_image_with_mouse_lock();
     for (int options = 0; options < 256; options++) {
+        if (options & CALUGNID_PC_AT) {
+            try_pc_at((uint8_t)options);
+            continue;
+        }
         try_noise((uint8_t)options);
         try_noise_while_locked((uint8_t)options);
     }

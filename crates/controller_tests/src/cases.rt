@@ -1,5 +1,6 @@
 // The cases. An event is its three bytes in hexadecimal.
 // This file is Rust as well: the generator of the expected output includes it.
+use crate::at_case;
 use crate::case;
 use crate::locked_case;
 use crate::sized;
@@ -176,5 +177,56 @@ pub fn noise() {
     locked_case(
         b"noise from the mouse with the mouse lock and the key turned",
         b"03A800 087F00 052804 05FF07 05FF03 05FE03 052906 000000 08FF00 05FF07 052806 000000",
+    );
+}
+
+// AT mode, but for the last case.
+pub fn at_mode() {
+    at_case(
+        b"AT mode: D1h writes five latches, D0h reads P2, pins leave them",
+        b"03D100 012A00 03D000 000000 08FF00 03D100 01D500 03D000 000000 03D100 01FF00",
+    );
+    at_case(
+        b"AT mode: F0h to FFh pulse four lines",
+        b"03F000 03F700 03FB00 03FD00 03FE00 03FF00 03EF00",
+    );
+    at_case(
+        b"AT mode: P2 bit 4 is OBF and EKI",
+        b"036000 010100 042806 000000 036000 010000 042806 036000 010100 000000",
+    );
+    at_case(
+        b"AT mode: E0h with the keyboard on and off, the mouse on and off",
+        b"03E000 000000 03AE00 03E000 000000 036000 011000 03E000 000000 03AA00 000000 03E000 000000",
+    );
+    at_case(
+        b"AT mode: a time-out sets status bit 5, noise leaves it, frames and a byte taken clear it",
+        b"03AE00 01ED00 070000 000000 04FF07 04FE03 000000 01ED00 070000 000000 042804 000000 \
+        01ED00 070000 000000 042806 000000 01ED00 070000 000000 01ED00 060000 020000",
+    );
+    at_case(
+        b"AT mode: a time-out clears a broken frame and a wrong parity",
+        b"03AE00 04FE03 000000 01ED00 070000 000000 042804 000000 01ED00 070000 000000",
+    );
+    at_case(
+        b"AT mode: a mouse frame is refused by 12, after 2 and before 5",
+        b"052806 050008 03AA00 052806 05FF07 050008 000000 052806 01ED00 052806 060000 050100",
+    );
+    at_case(
+        b"AT mode: commands for code and mouse do nothing, and the next byte goes to the keyboard",
+        b"03AA00 000000 03A400 01F400 060000 03A500 011E00 060000 010000 060000 03A600 01F400 060000 \
+        03A700 01F400 060000 03A800 01F400 060000 03A900 01F400 060000 032000 000000",
+    );
+    at_case(
+        b"AT mode: overlays and writes to the buffer and the mouse do nothing",
+        b"03C100 01F400 060000 03C200 01F400 060000 03D200 014100 060000 03D300 014100 060000 \
+        03D400 01F400 060000 037400 03D400 01F400 060000 033400 000000 03D100 03C200 010000 060000 03D000 000000",
+    );
+    at_case(
+        b"AT mode: the key switch, the break flag and the translation are as ever",
+        b"03AE00 087F00 04E007 04F204 04FE03 08FF00 04E007 04FF07 04F204 000000 04F204 000000 036000 010000 04F204 000000",
+    );
+    case(
+        b"PS/2 mode: D1h writes two latches and F0h to FFh pulse two lines",
+        b"03D100 010000 03D100 01FF00 03D000 000000 03F000 03F300 03FC00 03FE00 03E000 000000",
     );
 }

@@ -199,7 +199,20 @@ pub fn case(name: &[u8], events: &[u8]) {
 
 // With the mouse lock.
 pub fn locked_case(name: &[u8], events: &[u8]) {
-    started_case(Settings { mouse_lock: true }, name, events);
+    let settings = Settings {
+        mouse_lock: true,
+        at_mode: false,
+    };
+    started_case(settings, name, events);
+}
+
+// In AT mode.
+pub fn at_case(name: &[u8], events: &[u8]) {
+    let settings = Settings {
+        mouse_lock: false,
+        at_mode: true,
+    };
+    started_case(settings, name, events);
 }
 
 fn main() {
@@ -211,4 +224,5 @@ fn main() {
     cases::frames();
     cases::mouse_lock();
     cases::noise();
+    cases::at_mode();
 }

@@ -1,5 +1,6 @@
 // The checks that refuse what a device or the wire brings, by their numbers; 0 is none.
 use machine::events::value;
+use machine::lines::at_mode;
 use machine::lines::input_full;
 use machine::lines::keyboard_off;
 use machine::lines::mouse_off;
@@ -13,12 +14,14 @@ ghost use Rattle.machine.specs.Lines.{inputFull};
 ghost use Rattle.machine.specs.Events.{event, valueOf, refusal};
 ghost use Rattle.machine.specs.View.{public};
 
-// A frame: its device is off, the output buffer is full, or a byte is being sent.
-fn frame_refusal(s: &State, off: bool, low: u8, high: u8) -> u8
-    ensures { λ r. ⌜ (let p = public (now (s .entry)) in r ≡ cond (ltb 2047 (valueOf low high)) 2 (cond (off || (p .output .full || inputFull p)) 5 0)) ⌝ }
+// A frame: the mode has no such device; or the device is off, the output buffer is full, or a byte is being sent.
+fn frame_refusal(s: &State, absent: bool, off: bool, low: u8, high: u8) -> u8
+    ensures { λ r. ⌜ (let p = public (now (s .entry)) in r ≡ cond (ltb 2047 (valueOf low high)) 2 (cond absent 12 (cond (off || (p .output .full || inputFull p)) 5 0))) ⌝ }
 {
     if 2047 < value(low, high) {
         2
+    } else if absent {
+        12
     } else if off | (output_full(s) | input_full(s)) {
         5
     } else {
@@ -30,14 +33,14 @@ fn frame_refusal(s: &State, off: bool, low: u8, high: u8) -> u8
 pub fn keyboard_refusal(s: &State, low: u8, high: u8) -> u8
     ensures { λ r. ⌜ r ≡ refusal (public (now (s .entry))) (event 4 low high) ⌝ }
 {
-    frame_refusal(s, keyboard_off(s), low, high)
+    frame_refusal(s, false, keyboard_off(s), low, high)
 }
 
 // Kind 5.
 pub fn mouse_refusal(s: &State, low: u8, high: u8) -> u8
     ensures { λ r. ⌜ r ≡ refusal (public (now (s .entry))) (event 5 low high) ⌝ }
 {
-    frame_refusal(s, mouse_off(s), low, high)
+    frame_refusal(s, at_mode(s), mouse_off(s), low, high)
 }
 
 // Kinds 6 and 7, the end of a byte being sent.

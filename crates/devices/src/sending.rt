@@ -1,5 +1,6 @@
 // Kinds 6 and 7, the end of a byte being sent: its device took it, or did not in time.
 use crate::checks::end_refusal;
+use crate::errors::note_not_taken;
 use crate::errors::set_errors;
 use machine::events::Told;
 use machine::events::quiet;
@@ -40,7 +41,7 @@ fn timed_out(s: &mut State)
 {
     let to = s[SENT_TO];
     stop_sending(s);
-    set_errors(s, true, false);
+    note_not_taken(s);
     if to == 2 {
         put_mouse(s, NOT_TAKEN);
     } else {

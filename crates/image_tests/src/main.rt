@@ -11,6 +11,7 @@ use machine::flags::with_output;
 use machine::settings::ordinary;
 use machine::state::CODE;
 use machine::state::FLAGS;
+use machine::state::HIGH_LATCHES;
 use machine::state::LATCHES;
 use machine::state::LENGTH;
 use machine::state::OPTIONS;
@@ -18,6 +19,7 @@ use machine::state::OUTPUT;
 use machine::state::PINS;
 use machine::state::RAM;
 use machine::state::State;
+use machine::state::TTIM;
 use machine::state::start;
 use std::num::wrapping_add_u16;
 
@@ -96,7 +98,7 @@ fn put_code(s: &mut State, n: u8) {
 
 // A state with something in each of its parts, and a lock code of n bytes.
 fn sample(n: u8) -> State {
-    let mut s = [0u8; 61];
+    let mut s = [0u8; 64];
     s[OUTPUT] = 0x41;
     s[FLAGS] = flags();
     s[PINS] = 0xA5;
@@ -105,7 +107,9 @@ fn sample(n: u8) -> State {
     s[RAM] = 0x65;
     s[RAM + 19] = 0x55;
     s[RAM + 31] = 0xFF;
-    s[OPTIONS] = 1;
+    s[OPTIONS] = 3;
+    s[HIGH_LATCHES] = 0xA;
+    s[TTIM] = 1;
     s
 }
 

@@ -18,6 +18,8 @@ pub mod KeptCommands
 pub mod KeptFrames
 pub mod Kept
 pub mod Run
+pub mod Modes
+pub mod AtMode
 pub mod Flags
 pub mod Code
 pub mod View

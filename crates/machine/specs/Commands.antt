@@ -1,15 +1,26 @@
 -- "Events", kind 3, and "Commands": what a command byte written to port 64h does.
 use Prim.Native.Nat.{ℕ, _-_, _/_, _%_}
-use mathlib.Core.Bool.{Bool, true, false, cond, not, _&&_}
+use mathlib.Core.Bool.{Bool, true, false, cond, not, _&&_, _||_}
 use lib.Dec.{eqb, leb}
 use lib.ListN.{length}
 use Rattle.translation.specs.Bits.{has}
+use Rattle.machine.specs.Settings.{Settings}
 use Rattle.machine.specs.State.{Public, Machine, withHost, withLocked, lift}
-use Rattle.machine.specs.Lines.{put, putCell, cellOf, mode, withMode, setBit, clearBit, outputPort, keyboardOff, mouseOff, keyboardDisabled, keyboardEnabled, mouseDisabled, mouseEnabled, nibble}
+use Rattle.machine.specs.Lines.{atMode, put, putCell, cellOf, mode, withMode, setBit, clearBit, nibble, outputPort}
+use Rattle.machine.specs.Lines.{keyboardOff, mouseOff, keyboardDisabled, keyboardEnabled, mouseDisabled, mouseEnabled}
 use Rattle.machine.specs.DataPort.{dropped}
 
 abbrev pub within : ℕ → ℕ → ℕ → Bool
 within low high c = leb low c && leb c high
+
+-- The commands of PS/2 mode alone: the lock code's and the mouse's, the overlays, and the writes to the buffer and the mouse.
+abbrev pub ps2Only : ℕ → Bool
+ps2Only c = within 0xA4 0xA9 c || (within 0xC1 0xC2 c || within 0xD2 0xD4 c)
+
+-- A command as it acts under the settings of the start: one that the mode does not know acts as 00h, which does nothing in any mode
+-- (document 02, W3).
+abbrev pub understood : Settings → ℕ → ℕ
+understood x c = cond (x .atMode && ps2Only c) 0 c
 
 -- The pending code that a command leaves.
 unfoldable pub pendingOf : ℕ → ℕ
@@ -42,9 +53,10 @@ overlaid n p =
 abbrev pub selfTested : Public → Public
 selfTested p = put 0x55 (withMode (setBit (clearBit (clearBit (mode p) 4) 5) 2) p)
 
--- the test inputs: bit 0 keyboard not off, bit 1 mouse not off
-abbrev pub testInputs : Public → ℕ
-testInputs p = nibble (not (keyboardOff p)) (not (mouseOff p)) false false
+-- The test inputs: bit 0 keyboard not off, bit 1 mouse not off; in AT mode bit 0 is 1 and bit 1 keyboard not off (document 02, W3).
+unfoldable pub testInputs : Public → ℕ
+testInputs p =
+    cond (atMode p) (nibble true (not (keyboardOff p)) false false) (nibble (not (keyboardOff p)) (not (mouseOff p)) false false)
 
 abbrev pub testInputsPut : Public → Public
 testInputsPut p = put (testInputs p) p
@@ -96,8 +108,11 @@ acts c m =
 
 -- Kind 3.
 unfoldable pub writeCommand : ℕ → Machine → Machine
-writeCommand c m = acts c (lift (commandWritten c) (loadCut m))
+writeCommand c m =
+    let known = understood (m .plain .settings) c in
+    acts known (lift (commandWritten known) (loadCut m))
 
--- F0h-FFh pulse P20 where bit 0 is 0 and P21 where bit 1 is 0: a mask of the lines of P2.
-unfoldable pub pulseOf : ℕ → ℕ
-pulseOf c = cond (leb 0xF0 c) (nibble (not (has c 0)) (not (has c 1)) false false) 0
+-- F0h-FFh pulse P20 where bit 0 is 0 and P21 where bit 1 is 0, in AT mode P22 and P23 by bits 2 and 3 as well: a mask of the lines of P2.
+unfoldable pub pulseOf : Settings → ℕ → ℕ
+pulseOf x c =
+    cond (leb 0xF0 c) (nibble (not (has c 0)) (not (has c 1)) (x .atMode && not (has c 2)) (x .atMode && not (has c 3))) 0

@@ -6,7 +6,7 @@ use lib.ListN.{length, set}
 use lib.Dec.{eqb, leb}
 use Rattle.translation.specs.Bits.{has}
 use Rattle.machine.specs.State.{Public, Host, Machine, withHost, withPorts, withRam, withSending, lift, withSecret}
-use Rattle.machine.specs.Lines.{put, putMouse, withMode, keyboardEnabled}
+use Rattle.machine.specs.Lines.{atMode, put, putMouse, withMode, keyboardEnabled}
 
 -- no pending code
 abbrev pub settled : Public → Public
@@ -28,9 +28,18 @@ send to v p = withSending p (record { to = to; byte = v })
 abbrev pub sendKeyboard : ℕ → Public → Public
 sendKeyboard v p = send 1 v (keyboardEnabled p)
 
--- code 4: bits 0 and 1 to the latches
+-- Code 4: bits 0 and 1 to the latches; in AT mode bits 2, 3 and 5 as well (document 02, W3).
 abbrev pub latched : ℕ → Public → Public
-latched v p = withPorts p (record { pins = p .ports .pins; p20 = has v 0; p21 = has v 1 })
+latched v p =
+    withPorts p
+    (record {
+      pins = p .ports .pins;
+      p20 = has v 0;
+      p21 = has v 1;
+      p22 = cond (atMode p) (has v 2) (p .ports .p22);
+      p23 = cond (atMode p) (has v 3) (p .ports .p23);
+      p25 = cond (atMode p) (has v 5) (p .ports .p25);
+    })
 
 -- code 2: to the cell that the command named
 abbrev pub cellWritten : ℕ → Public → Public

@@ -1,11 +1,11 @@
--- "Events", "Refusing" 1-6 and "Answers": one event, the machine after it and its nine answer bytes.
+-- "Events", "Refusing" 1-6, document 02's check 12, and "Answers": one event, the machine after it and its nine answer bytes.
 use Prim.Native.Nat.{ℕ, _+_, _*_, _/_, _%_}
 use mathlib.Core.Bool.{Bool, true, false, cond, not, _&&_, _||_}
 use mathlib.Core.List.{List, [], _∷_}
 use lib.Dec.{eqb, leb, ltb}
 use Rattle.translation.specs.Frames.{check, frame}
 use Rattle.machine.specs.State.{Public, Output, Machine, withOutput, lift}
-use Rattle.machine.specs.Lines.{status, outputPort, inputFull, keyboardOff, mouseOff, weight}
+use Rattle.machine.specs.Lines.{atMode, status, outputPort, inputFull, keyboardOff, mouseOff, weight}
 use Rattle.machine.specs.DataPort.{writeData}
 use Rattle.machine.specs.Commands.{writeCommand, pulseOf}
 use Rattle.machine.specs.Frames.{keyboardFrame, mouseFrame, taken, timedOut, pinned}
@@ -39,6 +39,10 @@ endsSending k = eqb k 6 || eqb k 7
 abbrev pub limit : ℕ → ℕ
 limit k = cond (isWrite k || eqb k 8) 255 (cond (isFrame k) 2047 0)
 
+-- a frame from the mouse, of which AT mode has none (document 02, W3)
+abbrev pub fromNoMouse : Public → ℕ → Bool
+fromNoMouse p k = eqb k 5 && atMode p
+
 -- the device that a frame comes from is off
 abbrev pub deviceOff : Public → ℕ → Bool
 deviceOff p k = cond (eqb k 4) (keyboardOff p) (mouseOff p)
@@ -47,14 +51,14 @@ deviceOff p k = cond (eqb k 4) (keyboardOff p) (mouseOff p)
 abbrev pub noRoom : Public → ℕ → Bool
 noRoom p k = deviceOff p k || (p .output .full || inputFull p)
 
--- the first of the checks 3 to 6 that stands
-abbrev pub numbered : Bool → Bool → Bool → Bool → ℕ
-numbered busy locked early idle = cond busy 3 (cond locked 4 (cond early 5 (cond idle 6 0)))
+-- the first of the checks 12 and 3 to 6 that stands
+abbrev pub numbered : Bool → Bool → Bool → Bool → Bool → ℕ
+numbered absent busy locked early idle = cond absent 12 (cond busy 3 (cond locked 4 (cond early 5 (cond idle 6 0))))
 
--- Checks 3 to 6, which go by the state.
+-- Check 12 and then 3 to 6, which go by the state.
 unfoldable pub stateRefusal : Public → ℕ → ℕ
 stateRefusal p k =
-    numbered (isWrite k && inputFull p) (isWrite k && p .locked) (isFrame k && noRoom p k) (endsSending k && not (inputFull p))
+    numbered (fromNoMouse p k) (isWrite k && inputFull p) (isWrite k && p .locked) (isFrame k && noRoom p k) (endsSending k && not (inputFull p))
 
 -- The first check that stands, by its number; 0 is none.
 unfoldable pub refusal : Public → Event → ℕ
@@ -89,8 +93,8 @@ abbrev pub oldMark : Public → ℕ → ℕ
 oldMark p k = weight 1 (eqb k 0 && not (p .output .full))
 
 -- the lines that a command pulses
-abbrev pub pulse : Event → ℕ
-pulse e = cond (eqb (e .kind) 3) (pulseOf (value e)) 0
+abbrev pub pulse : Public → Event → ℕ
+pulse p e = cond (eqb (e .kind) 3) (pulseOf (p .settings) (value e)) 0
 
 -- the frame being sent, 0 with nobody
 abbrev pub sentFrame : Public → ℕ
@@ -112,7 +116,7 @@ standing p = refusedReply p 0
 -- The nine bytes, from the public part before the event, the event, and the public part after it.
 unfoldable pub reply : Public → Event → Public → List ℕ
 reply p e q =
-    cond (eqb (refusal p e) 0) (0 ∷ byteRead p (e .kind) ∷ oldMark p (e .kind) ∷ lines q (pulse e)) (refusedReply p (refusal p e))
+    cond (eqb (refusal p e) 0) (0 ∷ byteRead p (e .kind) ∷ oldMark p (e .kind) ∷ lines q (pulse p e)) (refusedReply p (refusal p e))
 
 abbrev pub answer : Machine → Event → List ℕ
 answer m e = reply (m .plain) e (step m e .plain)

@@ -7,12 +7,16 @@ use Rattle.translation.specs.Bits.{has}
 use Rattle.translation.specs.Frames.{Check, sound, parity, broken, noise, check}
 use Rattle.translation.specs.ScanCodes.{Translation, Yielded, nothing, byte, translate, raw, builtIn}
 use Rattle.machine.specs.State.{Public, Machine, withErrors, withPorts, withBreaks, withLocked, lift, withSecret}
-use Rattle.machine.specs.Lines.{put, putMouse, putCell, cellOf, inhibited, mouseInhibited, translates}
+use Rattle.machine.specs.Lines.{atMode, put, putMouse, putCell, cellOf, inhibited, mouseInhibited, translates}
 use Rattle.machine.specs.DataPort.{send}
 
--- The error bits after a frame that is no noise: a broken one sets TERR, a wrong parity PERR, and the other is cleared.
+-- The error bits after a frame that is no noise: a broken one sets TERR, a wrong parity PERR, and the others are cleared.
 abbrev pub errorsSet : Bool → Bool → Public → Public
-errorsSet t e p = withErrors p (record { terr = t; perr = e })
+errorsSet t e p = withErrors p (record { terr = t; perr = e; ttim = false })
+
+-- The error bits after a byte that was not taken: TERR; in AT mode the transmit time-out. The others are cleared.
+abbrev pub notTaken : Public → Public
+notTaken p = withErrors p (record { terr = not (atMode p); perr = false; ttim = atMode p })
 
 abbrev pub positioned : ℕ → Machine → Machine
 positioned k m = withSecret m (record { code = m .secret .code; position = k })
@@ -101,8 +105,10 @@ taken p = errorsSet false false (idle p)
 
 -- Kind 7: it did not: FEh is put with the source of the device that was sent to.
 unfoldable pub timedOut : Public → Public
-timedOut p = cond (eqb (p .sending .to) 2) (putMouse 0xFE (errorsSet true false (idle p))) (put 0xFE (errorsSet true false (idle p)))
+timedOut p = cond (eqb (p .sending .to) 2) (putMouse 0xFE (notTaken (idle p))) (put 0xFE (notTaken (idle p)))
 
 -- Kind 8: P1 is the value.
 abbrev pub pinned : ℕ → Public → Public
-pinned v p = withPorts p (record { pins = v; p20 = p .ports .p20; p21 = p .ports .p21 })
+pinned v p =
+    let latches = p .ports in
+    withPorts p (record { pins = v; p20 = latches .p20; p21 = latches .p21; p22 = latches .p22; p23 = latches .p23; p25 = latches .p25 })

@@ -4,13 +4,16 @@ use mathlib.Core.Path.{_≡_}
 use mathlib.Core.Bool.{true, false}
 use lib.ListN.{length, getD}
 use Rattle.machine.specs.State.{Machine}
-use Rattle.machine.specs.Lines.{mode}
+use Rattle.machine.specs.Lines.{atMode, mode}
 
 pub record Kept (m : Machine) : Type 0 where
   pub output : m .plain .output .byte < 256
   -- mouse source needs OBF
   pub source : m .plain .output .mouse ≡ true → m .plain .output .full ≡ true
   pub pins : m .plain .ports .pins < 256
+  -- in PS/2 mode the latches and the error bit of AT mode have their fresh values (document 02, W9)
+  pub latches : atMode (m .plain) ≡ false → (m .plain .ports .p22 ≡ true) × (m .plain .ports .p23 ≡ true) × (m .plain .ports .p25 ≡ false)
+  pub ttim : atMode (m .plain) ≡ false → m .plain .errors .ttim ≡ false
   pub pending : m .plain .host .pending ≤ 7
   -- the cell is 1-31 for code 2, else 0
   pub cell : m .plain .host .pending ≡ 2 → (1 ≤ m .plain .host .cell) × (m .plain .host .cell ≤ 31)

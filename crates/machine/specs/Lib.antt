@@ -7,6 +7,7 @@ pub mod Frames
 pub mod Events
 pub mod Run
 pub mod Kept
+pub mod Modes
 pub mod Flags
 pub mod View
 pub mod Changed

@@ -17,6 +17,10 @@ setBit n k = n - bit n k * 2 ^ k + 2 ^ k
 abbrev pub clearBit : ℕ → ℕ → ℕ
 clearBit n k = n - bit n k * 2 ^ k
 
+-- started in AT mode (document 02, W3), else in PS/2 mode
+abbrev pub atMode : Public → Bool
+atMode p = p .settings .atMode
+
 -- a cell of the RAM; cell 0 is the mode byte
 abbrev pub cellOf : Public → ℕ → ℕ
 cellOf p k = getD (p .ram) k 0
@@ -81,11 +85,15 @@ mouseInhibited p = p .settings .mouseLock && not (keySwitch p)
 unfoldable pub nibble : Bool → Bool → Bool → Bool → ℕ
 nibble a b c d = weight 1 a + weight 2 b + weight 4 c + weight 8 d
 
--- Status bits 4-7: P1 bit 7, OBF with mouse source, TERR, PERR; or the overlay's nibble.
+-- Status bit 5: OBF with mouse source; in AT mode the transmit time-out.
+abbrev pub statusBit5 : Public → Bool
+statusBit5 p = cond (atMode p) (p .errors .ttim) (p .output .full && p .output .mouse)
+
+-- Status bits 4-7: P1 bit 7, bit 5 as above, TERR, PERR; or the overlay's nibble.
 unfoldable pub highNibble : Public → ℕ
 highNibble p =
     cond (p .host .overlay) (p .host .nibble % 16)
-    (nibble (keySwitch p) (p .output .full && p .output .mouse) (p .errors .terr) (p .errors .perr))
+    (nibble (keySwitch p) (statusBit5 p) (p .errors .terr) (p .errors .perr))
 
 -- Status: bit 0 OBF, 1 IBF, 2 SYS, 3 C, and bits 4-7.
 unfoldable pub status : Public → ℕ
@@ -98,11 +106,20 @@ keyboardRequest p = p .output .full && (not (p .output .mouse) && keyboardInterr
 abbrev pub mouseRequest : Public → Bool
 mouseRequest p = p .output .full && (p .output .mouse && mouseInterrupt p)
 
--- P2: bits 0 and 1 latches, 3 mouse off, 4 KIRQ, 5 MIRQ, 6 keyboard off; 2 and 7 are 0.
-unfoldable pub outputPort : Public → ℕ
-outputPort p =
+-- P2 in PS/2 mode: bits 0 and 1 latches, 3 mouse off, 4 KIRQ, 5 MIRQ, 6 keyboard off; 2 and 7 are 0.
+abbrev pub ps2Port : Public → ℕ
+ps2Port p =
     nibble (p .ports .p20) (p .ports .p21) false (mouseOff p)
     + 16 * nibble (keyboardRequest p) (mouseRequest p) (keyboardOff p) false
+
+-- P2 in AT mode: bits 0-3 and 5 latches, 4 OBF and EKI, 6 keyboard off; 7 is 1 (document 02, W3).
+abbrev pub atPort : Public → ℕ
+atPort p =
+    nibble (p .ports .p20) (p .ports .p21) (p .ports .p22) (p .ports .p23)
+    + 16 * nibble (p .output .full && keyboardInterrupt p) (p .ports .p25) (keyboardOff p) true
+
+unfoldable pub outputPort : Public → ℕ
+outputPort p = cond (atMode p) (atPort p) (ps2Port p)
 
 -- To put a byte: it becomes the output byte, and an older one is lost.
 abbrev pub put : ℕ → Public → Public

@@ -1,4 +1,4 @@
--- Document 02, W1: what a start names. It is part of the state, and no event changes it. A start that can name more has a field more here.
+-- Document 02, W1 and W3: what a start names. It is part of the state, and no event changes it. A start that can name more has a field more here.
 use Prim.Native.Nat.{ℕ}
 use mathlib.Core.Bool.{Bool, false}
 use Rattle.translation.specs.Bits.{has}
@@ -6,11 +6,13 @@ use Rattle.translation.specs.Bits.{has}
 pub record Settings : Type 0 where
   -- the VT82C42's mouse lock: the key switch keeps the mouse from the host as well
   pub mouseLock : Bool
+  -- AT mode, for PCs older than the PS/2: no mouse and no lock code, and other lines on status and output port
+  pub atMode : Bool
 
 -- The ordinary settings: those of a start that names nothing else, and of a load.
 abbrev pub ordinary : Settings
-ordinary = record { mouseLock = false }
+ordinary = record { mouseLock = false; atMode = false }
 
--- A byte of options names them: mouse lock in bit 0. No other bit is looked at.
+-- A byte of options names them: mouse lock in bit 0, AT mode in bit 1. No other bit is looked at.
 abbrev pub settingsOf : ℕ → Settings
-settingsOf options = record { mouseLock = has options 0 }
+settingsOf options = record { mouseLock = has options 0; atMode = has options 1 }

@@ -11,10 +11,12 @@ pub record Output : Type 0 where
   pub full : Bool
   pub mouse : Bool
 
--- The error bits: TERR, a broken frame or a transmit time-out, and PERR, a parity error.
+-- The error bits: TERR, a broken frame or a byte that was not taken, and PERR, a parity error. In AT mode TERR is the data sheets' receive
+-- time-out (RTIM), for broken frames alone, and a byte that was not taken is the transmit time-out (TTIM) (document 02, W3).
 pub record Errors : Type 0 where
   pub terr : Bool
   pub perr : Bool
+  pub ttim : Bool
 
 -- What the host wrote: the command flag C, the pending code, the RAM cell of code 2, and the status overlay.
 pub record Host : Type 0 where
@@ -24,11 +26,14 @@ pub record Host : Type 0 where
   pub overlay : Bool
   pub nibble : ℕ
 
--- Input port pins P1, and the latches of output port lines P20 and P21.
+-- Input port pins P1, and the latches of output port lines: P20, P21, and those that AT mode has besides.
 pub record Ports : Type 0 where
   pub pins : ℕ
   pub p20 : Bool
   pub p21 : Bool
+  pub p22 : Bool
+  pub p23 : Bool
+  pub p25 : Bool
 
 -- The transmitter: whom a byte is being sent to (0 nobody, 1 keyboard, 2 mouse), and the byte.
 pub record Sending : Type 0 where
@@ -89,15 +94,15 @@ lift f m = record { plain = f (m .plain); secret = m .secret }
 abbrev pub withSecret : Machine → Secret → Machine
 withSecret m x = record { plain = m .plain; secret = x }
 
--- Fresh, as a start with these settings leaves it: P1 FFh, both latches 1, the mode byte 70h, all else 0 or none.
+-- Fresh, as a start with these settings leaves it: P1 FFh, the latches of P20-P23 1, the mode byte 70h, all else 0 or none.
 unfoldable pub fresh : Settings → Machine
 fresh x =
     record {
       plain = record {
         output = record { byte = 0; full = false; mouse = false };
-        errors = record { terr = false; perr = false };
+        errors = record { terr = false; perr = false; ttim = false };
         host = record { command = false; pending = 0; cell = 0; overlay = false; nibble = 0 };
-        ports = record { pins = 0xFF; p20 = true; p21 = true };
+        ports = record { pins = 0xFF; p20 = true; p21 = true; p22 = true; p23 = true; p25 = false };
         sending = record { to = 0; byte = 0 };
         breaks = false;
         locked = false;

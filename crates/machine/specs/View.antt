@@ -1,5 +1,5 @@
 -- "Saved image", the body: the first bytes that the program holds its state in are those that an image has of it; the settings of the start
--- stand behind them. One table, read both ways.
+-- and what AT mode adds stand behind them, in the places that document 02's W9 gives them. One table, read both ways.
 use Prim.Native.Nat.{ℕ, _+_, _-_, _*_}
 use mathlib.Core.Path.{_≡_}
 use mathlib.Core.Bool.{false}
@@ -15,7 +15,7 @@ use Rattle.machine.specs.declared.settings.Settings as program
 
 -- how many bytes the state has
 abbrev pub stateLength : ℕ
-stateLength = 61
+stateLength = 64
 
 -- Byte 1: OBF, mouse source, C, TERR, PERR, break, locked in bits 0-6.
 abbrev pub flags : Public → ℕ
@@ -53,13 +53,17 @@ padded code = code ++ replicate (16 - length code) 0
 unfoldable pub body : Machine → List ℕ
 body m = head m ++ padded (m .secret .code) ++ m .plain .ram
 
--- Byte 60: the options, mouse lock in bit 0.
+-- Byte 60: the options, mouse lock in bit 0, AT mode in bit 1.
 abbrev pub optionsOf : Settings → ℕ
-optionsOf x = nibble (x .mouseLock) false false false
+optionsOf x = nibble (x .mouseLock) (x .atMode) false false
 
--- what a state has behind those bytes
+-- Byte 62: P22, P23 and P25 in bits 0, 1 and 3.
+abbrev pub highLatches : Public → ℕ
+highLatches p = nibble (p .ports .p22) (p .ports .p23) false (p .ports .p25)
+
+-- What a state has behind those bytes. Byte 61 stands for nothing, byte 63 has the transmit time-out in bit 0.
 abbrev pub beyond : Public → List ℕ
-beyond p = optionsOf (p .settings) ∷ []
+beyond p = optionsOf (p .settings) ∷ 0 ∷ highLatches p ∷ nibble (p .errors .ttim) false false false ∷ []
 
 -- The bytes of a machine.
 unfoldable pub stateOf : Machine → List ℕ
@@ -75,9 +79,16 @@ public s =
     let flags = flagsOf (at s 1) in
     record {
       output = record { byte = at s 0; full = flags .full; mouse = flags .mouse };
-      errors = record { terr = flags .terr; perr = flags .perr };
+      errors = record { terr = flags .terr; perr = flags .perr; ttim = has (at s 63) 0 };
       host = record { command = flags .command; pending = at s 4; cell = at s 5; overlay = eqb (at s 6) 1; nibble = at s 7 };
-      ports = record { pins = at s 2; p20 = has (at s 3) 0; p21 = has (at s 3) 1 };
+      ports = record {
+        pins = at s 2;
+        p20 = has (at s 3) 0;
+        p21 = has (at s 3) 1;
+        p22 = has (at s 62) 0;
+        p23 = has (at s 62) 1;
+        p25 = has (at s 62) 3;
+      };
       sending = record { to = at s 8; byte = at s 9 };
       breaks = flags .breaks;
       locked = flags .locked;
@@ -95,4 +106,4 @@ IsState s = s ≡ stateOf (view s)
 
 -- the settings that a caller's struct names
 abbrev pub named : program.Settings → Settings
-named x = record { mouseLock = x .«mouse_lock» }
+named x = record { mouseLock = x .«mouse_lock»; atMode = x .«at_mode» }

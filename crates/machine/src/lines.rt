@@ -1,6 +1,7 @@
 // What the state shows: the mode byte's bits, status, the output port, and a byte put for the host.
 use crate::flags::with_output;
 use crate::state::FLAGS;
+use crate::state::HIGH_LATCHES;
 use crate::state::LATCHES;
 use crate::state::MODE;
 use crate::state::NIBBLE;
@@ -11,6 +12,7 @@ use crate::state::PINS;
 use crate::state::RAM;
 use crate::state::SENT_TO;
 use crate::state::State;
+use crate::state::TTIM;
 use crate::state::sized;
 use crate::weights::nibble;
 use crate::weights::upper;
@@ -22,6 +24,13 @@ ghost use Rattle.machine.specs.State.{lift};
 ghost use Rattle.machine.specs.Lines as lines;
 ghost use Rattle.machine.specs.View.{public};
 ghost use Rattle.machine.specs.Changed.{KeptChange};
+
+// Started in AT mode, else in PS/2 mode.
+pub fn at_mode(s: &State) -> bool
+    ensures { λ r. ⌜ r ≡ lines.atMode (public (now (s .entry))) ⌝ }
+{
+    s[OPTIONS] / 2 % 2 == 1
+}
 
 // A cell of the RAM, 0 past its end.
 pub fn cell(s: &State, k: u8) -> u8
@@ -101,6 +110,17 @@ pub fn mouse_inhibited(s: &State) -> bool
     (s[OPTIONS] / 1 % 2 == 1) & (s[PINS] / 128 % 2 != 1)
 }
 
+// Bit 5 of the status: the unread byte is the mouse's; in AT mode the transmit time-out.
+fn status_bit_5(s: &State) -> bool
+    ensures { λ r. ⌜ r ≡ lines.statusBit5 (public (now (s .entry))) ⌝ }
+{
+    if at_mode(s) {
+        s[TTIM] / 1 % 2 == 1
+    } else {
+        output_full(s) & from_mouse(s)
+    }
+}
+
 // Bits 4-7 of the status.
 fn high_status(s: &State) -> u8
     ensures { λ r. ⌜ (r ≡ 16 * lines.highNibble (public (now (s .entry)))) × (r ≤ 240) ⌝ }
@@ -110,7 +130,7 @@ fn high_status(s: &State) -> u8
     } else {
         upper(
             s[PINS] / 128 % 2 == 1,
-            output_full(s) & from_mouse(s),
+            status_bit_5(s),
             s[FLAGS] / 8 % 2 == 1,
             s[FLAGS] / 16 % 2 == 1,
         )
@@ -144,9 +164,9 @@ fn requests(s: &State) -> u8
     }
 }
 
-// The output port P2.
-pub fn output_port(s: &State) -> u8
-    ensures { λ r. ⌜ r ≡ lines.outputPort (public (now (s .entry))) ⌝ }
+// The output port P2 in PS/2 mode.
+fn ps2_port(s: &State) -> u8
+    ensures { λ r. ⌜ r ≡ lines.ps2Port (public (now (s .entry))) ⌝ }
 {
     nibble(
         s[LATCHES] / 1 % 2 == 1,
@@ -156,6 +176,31 @@ pub fn output_port(s: &State) -> u8
     )
         + requests(s)
         + weight(64, keyboard_off(s))
+}
+
+// The output port P2 in AT mode.
+fn at_port(s: &State) -> u8
+    ensures { λ r. ⌜ r ≡ lines.atPort (public (now (s .entry))) ⌝ }
+{
+    nibble(
+        s[LATCHES] / 1 % 2 == 1,
+        s[LATCHES] / 2 % 2 == 1,
+        s[HIGH_LATCHES] / 1 % 2 == 1,
+        s[HIGH_LATCHES] / 2 % 2 == 1,
+    )
+        + upper(
+            output_full(s) & (s[MODE] / 1 % 2 == 1),
+            s[HIGH_LATCHES] / 8 % 2 == 1,
+            keyboard_off(s),
+            true,
+        )
+}
+
+// The output port P2.
+pub fn output_port(s: &State) -> u8
+    ensures { λ r. ⌜ r ≡ lines.outputPort (public (now (s .entry))) ⌝ }
+{
+    if at_mode(s) { at_port(s) } else { ps2_port(s) }
 }
 
 // A byte for the host to read, from the keyboard or the controller itself.

@@ -1,4 +1,5 @@
-// The controller's state: bytes that a run changes in place. The first sixty are those of a saved image's body; the settings stand behind them.
+// The controller's state: bytes that a run changes in place. The first sixty are those of a saved image's body; the settings and what AT mode
+// adds stand behind them.
 use crate::settings::Settings;
 use crate::settings::options_of;
 ghost use mathlib.Core.Path.{_≡_};
@@ -7,7 +8,7 @@ ghost use lib.ListN.{length};
 ghost use Rattle.machine.specs.State.{fresh};
 ghost use Rattle.machine.specs.View.{stateLength, stateOf, view, named};
 
-pub type State = [u8; 61];
+pub type State = [u8; 64];
 
 // The output byte, which the host reads at port 60h.
 pub const OUTPUT: usize = 0;
@@ -15,7 +16,7 @@ pub const OUTPUT: usize = 0;
 // Seven flags, a bit each.
 pub const FLAGS: usize = 1;
 
-// Input port pins, and the latches of the output port in bits 0 and 1.
+// Input port pins, and the latches of P20 and P21 in bits 0 and 1.
 pub const PINS: usize = 2;
 
 pub const LATCHES: usize = 3;
@@ -46,8 +47,14 @@ pub const RAM: usize = 28;
 
 pub const MODE: usize = 28;
 
-// The options of the start, which no event changes: mouse lock in bit 0.
+// The options of the start, which no event changes: mouse lock in bit 0, AT mode in bit 1.
 pub const OPTIONS: usize = 60;
+
+// The latches of P22, P23 and P25 in bits 0, 1 and 3. Byte 61 stands for nothing.
+pub const HIGH_LATCHES: usize = 62;
+
+// The transmit time-out in bit 0.
+pub const TTIM: usize = 63;
 
 // The length that the type has, told to the proofs: they do not learn it of an array behind a reference. It compiles to nothing.
 pub fn sized(s: State)
@@ -67,10 +74,11 @@ pub fn code_length(s: &State) -> u8
 pub fn start(settings: Settings) -> State
     ensures { λ r. ⌜ (r ≡ stateOf (fresh (named settings))) × (view r ≡ fresh (named settings)) ⌝ }
 {
-    let mut s = [0u8; 61];
+    let mut s = [0u8; 64];
     s[PINS] = 0xFF;
     s[LATCHES] = 3;
     s[MODE] = 0x70;
     s[OPTIONS] = options_of(settings);
+    s[HIGH_LATCHES] = 3;
     s
 }

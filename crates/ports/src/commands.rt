@@ -10,6 +10,7 @@ use machine::events::Told;
 use machine::events::quiet;
 use machine::flags::with_command;
 use machine::flags::with_locked;
+use machine::lines::at_mode;
 use machine::lines::cell;
 use machine::lines::keyboard_off;
 use machine::lines::mode;
@@ -34,7 +35,7 @@ ghost use Rattle.machine.specs.State.{lift};
 ghost use Rattle.machine.specs.Lines as lines;
 ghost use Rattle.machine.specs.Commands as command;
 ghost use Rattle.machine.specs.Events.{event};
-ghost use Rattle.machine.specs.View.{view};
+ghost use Rattle.machine.specs.View.{public, view};
 ghost use Rattle.machine.specs.Changed.{Changed};
 ghost use Rattle.machine.specs.Told.{EventTold};
 
@@ -369,11 +370,21 @@ fn self_test(s: &mut State)
     put(s, 0x55);
 }
 
-// The test inputs: which devices are not off.
+// The test inputs: which devices are not off. In AT mode the keyboard's is bit 1, and bit 0 is 1.
+fn test_inputs(s: &State) -> u8
+    ensures { λ r. ⌜ r ≡ command.testInputs (public (now (s .entry))) ⌝ }
+{
+    if at_mode(s) {
+        nibble(true, !keyboard_off(s), false, false)
+    } else {
+        nibble(!keyboard_off(s), !mouse_off(s), false, false)
+    }
+}
+
 fn put_test_inputs(s: &mut State)
     ensures { λ _. ⌜ Changed (lift command.testInputsPut) (now (s .entry)) (now (s .exit)) ⌝ }
 {
-    let inputs = nibble(!keyboard_off(s), !mouse_off(s), false, false);
+    let inputs = test_inputs(s);
     put(s, inputs);
 }
 
@@ -485,21 +496,42 @@ fn act(s: &mut State, c: u8)
     }
 }
 
+// A command of PS/2 mode alone.
+fn ps2_only(c: u8) -> bool
+    ensures { λ r. ⌜ r ≡ command.ps2Only c ⌝ }
+{
+    ((0xA4 <= c) & (c <= 0xA9)) | (((0xC1 <= c) & (c <= 0xC2)) | ((0xD2 <= c) & (c <= 0xD4)))
+}
+
+// The command as it acts in the mode of the start: 00h, which does nothing, for one that AT mode does not know.
+fn understood(s: &State, c: u8) -> u8
+    ensures { λ r. ⌜ r ≡ command.understood (public (now (s .entry)) .settings) c ⌝ }
+{
+    if at_mode(s) & ps2_only(c) { 0 } else { c }
+}
+
 // What the command does.
 fn write_command(s: &mut State, c: u8)
     ensures { λ _. ⌜ Changed (command.writeCommand c) (now (s .entry)) (now (s .exit)) ⌝ }
 {
+    let known = understood(s, c);
     cut_load(s);
-    command_written(s, c);
-    act(s, c);
+    command_written(s, known);
+    act(s, known);
 }
 
 // The lines of the output port that a command pulses, as a mask.
-fn pulse_of(c: u8) -> u8
-    ensures { λ r. ⌜ r ≡ command.pulseOf c ⌝ }
+fn pulse_of(s: &State, c: u8) -> u8
+    ensures { λ r. ⌜ r ≡ command.pulseOf (public (now (s .entry)) .settings) c ⌝ }
 {
     if 0xF0 <= c {
-        nibble(c / 1 % 2 != 1, c / 2 % 2 != 1, false, false)
+        let all = at_mode(s);
+        nibble(
+            c / 1 % 2 != 1,
+            c / 2 % 2 != 1,
+            all & (c / 4 % 2 != 1),
+            all & (c / 8 % 2 != 1),
+        )
     } else {
         0
     }
@@ -512,11 +544,12 @@ pub fn command_event(s: &mut State, low: u8, high: u8) -> Told
     if number != 0 {
         return quiet(number);
     }
+    let pulse = pulse_of(s, low);
     write_command(s, low);
     Told {
         refusal: 0,
         read: 0,
         old: 0,
-        pulse: pulse_of(low),
+        pulse: pulse,
     }
 }

@@ -5,11 +5,13 @@ use crate::mode::set_mode;
 use machine::events::Told;
 use machine::events::quiet;
 use machine::flags::with_command;
+use machine::lines::at_mode;
 use machine::lines::put;
 use machine::lines::put_mouse;
 use machine::state::CELL;
 use machine::state::CODE;
 use machine::state::FLAGS;
+use machine::state::HIGH_LATCHES;
 use machine::state::LATCHES;
 use machine::state::LENGTH;
 use machine::state::PENDING;
@@ -64,11 +66,16 @@ fn send_keyboard(s: &mut State, byte: u8)
     send(s, 1, byte);
 }
 
+// Bits 0 and 1, and in AT mode bits 2, 3 and 5, go to the latches.
 fn latch(s: &mut State, v: u8)
     ensures { λ _. ⌜ Changed (lift (port.latched v)) (now (s .entry)) (now (s .exit)) ⌝ }
 {
     sized(*s);
+    let all = at_mode(s);
     s[LATCHES] = v % 4;
+    if all {
+        s[HIGH_LATCHES] = v / 4 % 4 + v / 32 % 2 * 8;
+    }
 }
 
 fn write_cell(s: &mut State, v: u8)

@@ -2,6 +2,7 @@
 -- Assumes nothing.
 use Prim.Native.Nat.{ℕ, zero, suc, _<_}
 use mathlib.Core.Path.{_≡_, refl, sym, _∙_, subst₂}
+use mathlib.Core.Bool.{Bool, false}
 use mathlib.Core.List.{List, [], _∷_}
 use mathlib.Core.Option.{some}
 use native.Mathlib.Omega.{arith}
@@ -35,8 +36,11 @@ second = typed 0x30 0x64
 some-injective : {e f : Event} → some e ≡ some f → e ≡ f
 some-injective p = cc
 
--- whichever settings both start with
-module _ (x : Settings) where
+-- whichever settings of PS/2 mode both start with; in AT mode no code can be loaded, so that lists from fresh are paired only where they are equal
+module _ (lock : Bool) where
+  abbrev x : Settings
+  x = record { mouseLock = lock; atMode = false }
+
   differ : (k : ℕ) (e f : Event) → At first k e → At second k f → Allowed (before (fresh x) first k) e f
   unfolding fresh after step refusal stateRefusal accept writeCommand acts loadCut pendingOf plainCommand lockedUp putCell writeData loadByte check ones
   differ zero e f p q = same (cc)

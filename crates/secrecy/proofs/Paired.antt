@@ -31,18 +31,18 @@ key-limit {e} k =
     omega (arith, frame-below (k .byte) (framed .0))
 
 events-alike : {m : Machine} {e f : Event} → Allowed m e f → EventsAlike e f
-events-alike {e} (same s) = subst (EventsAlike e) s (record { kind = refl; high = refl; pulse = refl })
+events-alike {e} (same s) = subst (EventsAlike e) s (record { kind = refl; high = refl; pulse = λ p. refl })
 events-alike (loading now c d) =
     record {
       kind = c .kind ∙ sym (d .kind);
       high = simp (c .kind, d .kind, le-ltb _ _ (c .high), le-ltb _ _ (d .high));
-      pulse = simp (c .kind, d .kind);
+      pulse = λ p. simp (c .kind, d .kind);
     }
 events-alike (trying now k l) =
     record {
       kind = k .kind ∙ sym (l .kind);
       high = simp (k .kind, l .kind, le-ltb _ _ (key-limit k), le-ltb _ _ (key-limit l));
-      pulse = simp (k .kind, l .kind);
+      pulse = λ p. simp (k .kind, l .kind);
     }
 
 codeByte-nonzero : {e f : Event} → CodeByte e → CodeByte f → eqb (value e) 0 ≡ eqb (value f) 0

@@ -1,14 +1,16 @@
 //! Counts what generated lists really reach, so that tests can ask for it.
 
+use crate::at_mode_coverage::AtModeCoverage;
 use crate::event::{Event, kind};
 use crate::mouse_coverage::MouseCoverage;
 use crate::noise_coverage::NoiseCoverage;
+use crate::refusals::{self, Refusals};
 use model::{Controller, PASSWORD_LIMIT, Pending, Settings, Verdict, judge};
 
 #[derive(Clone, Debug)]
 pub struct Coverage {
     pub events: usize,
-    pub refusals: [usize; 7],
+    pub refusals: Refusals,
     pub accepted: [usize; 9],
     pub commands: [usize; 256],
     pub keyboard_bytes: [usize; 256],
@@ -26,13 +28,18 @@ pub struct Coverage {
     pub overlays: usize,
     pub mouse: MouseCoverage,
     pub noise: NoiseCoverage,
+    pub at_mode: AtModeCoverage,
+}
+
+fn least(counts: &[usize]) -> usize {
+    counts.iter().copied().min().unwrap_or(0)
 }
 
 impl Coverage {
     pub fn new() -> Coverage {
         Coverage {
             events: 0,
-            refusals: [0; 7],
+            refusals: Refusals::default(),
             accepted: [0; 9],
             commands: [0; 256],
             keyboard_bytes: [0; 256],
@@ -49,14 +56,16 @@ impl Coverage {
             overlays: 0,
             mouse: MouseCoverage::default(),
             noise: NoiseCoverage::default(),
+            at_mode: AtModeCoverage::default(),
         }
     }
 
     /// Counts one event by its refusal and the states around it.
     pub fn note(&mut self, before: &Controller, event: Event, refusal: u8, after: &Controller) {
         self.events += 1;
-        self.refusals[usize::from(refusal)] += 1;
+        self.refusals.note(refusal);
         self.noise.note(before, event, refusal);
+        self.at_mode.note(before, event, refusal, after);
         if refusal != 0 {
             return;
         }
@@ -73,15 +82,42 @@ impl Coverage {
     /// enough for so many events.
     pub fn assert_reached(&self, settings: Settings) {
         println!("{self:?}");
-        let often = |count: usize, per_million: usize, what: &str| {
-            let wanted = per_million * self.events / 1_000_000;
-            assert!(count > wanted, "{what}: {count}, above {wanted} wanted");
-        };
-        let least = |counts: &[usize]| counts.iter().copied().min().unwrap_or(0);
-        often(least(&self.refusals), 500, "refusals");
-        often(least(&self.accepted), 500, "kinds");
-        often(least(&self.commands), 17, "commands");
-        often(least(&self.keyboard_bytes), 17, "keyboard bytes");
+        let refusals = self.refusals.least(refusals::from_fresh(settings));
+        self.often(refusals, 500, "refusals");
+        self.often(least(&self.kinds(settings)), 500, "kinds");
+        self.often(least(&self.commands), 17, "commands");
+        self.often(least(&self.keyboard_bytes), 17, "keyboard bytes");
+        self.often(self.overridden, 50, "inhibit overridden");
+        // No events from fresh load a code, lock or poll P1 in AT mode.
+        if !settings.at_mode {
+            self.assert_lock_reached();
+            self.often(self.overlays, 500, "overlays");
+        }
+        for (count, situation) in self.mouse.reached(settings) {
+            self.often(count, 10, &situation);
+        }
+        for (count, situation) in self.noise.reached(settings) {
+            self.often(count, 30, &situation);
+        }
+        for (count, situation) in self.at_mode.reached(settings) {
+            self.often(count, 60, &situation);
+        }
+    }
+
+    fn often(&self, count: usize, per_million: usize, what: &str) {
+        let wanted = per_million * self.events / 1_000_000;
+        assert!(count > wanted, "{what}: {count}, above {wanted} wanted");
+    }
+
+    /// The counts of all kinds that are accepted at times.
+    fn kinds(&self, settings: Settings) -> Vec<usize> {
+        let at_times = |kind: &usize| !settings.at_mode || *kind != kind::MOUSE_FRAME.into();
+        let kinds = (0..self.accepted.len()).filter(at_times);
+        kinds.map(|kind| self.accepted[kind]).collect()
+    }
+
+    fn assert_lock_reached(&self) {
+        let often = |count, per_million, what| self.often(count, per_million, what);
         often(least(&self.code_lengths), 17, "code lengths");
         often(self.overlong_codes, 50, "codes that are too long");
         often(self.abandoned_loads, 50, "loads ended by a command");
@@ -95,14 +131,6 @@ impl Coverage {
         often(self.wrong_tries, 334, "wrong keys after right ones");
         often(self.resets_by_damage, 50, "damage after right keys");
         often(self.swallowed, 50, "keys swallowed while locked");
-        often(self.overridden, 50, "inhibit overridden");
-        often(self.overlays, 500, "overlays");
-        for (count, situation) in self.mouse.reached(settings) {
-            often(count, 10, &situation);
-        }
-        for (count, situation) in self.noise.reached(settings) {
-            often(count, 30, &situation);
-        }
     }
 
     fn note_data(&mut self, before: &Controller, event: Event, after: &Controller) {

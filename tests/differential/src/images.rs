@@ -50,6 +50,14 @@ fn maybe_lock(state: &mut Controller, random: &mut Random) {
     }
 }
 
+/// What only AT mode changes.
+fn draw_at_mode(state: &mut Controller, random: &mut Random) {
+    state.latch_22 = random.chance(50);
+    state.latch_23 = random.chance(50);
+    state.latch_25 = random.chance(50);
+    state.transmit_timeout = random.chance(50);
+}
+
 /// Any state that keeps the body rules, reachable by events or not.
 pub fn state(random: &mut Random, settings: Settings) -> Controller {
     let full = random.chance(50);
@@ -57,7 +65,6 @@ pub fn state(random: &mut Random, settings: Settings) -> Controller {
     ram.copy_from_slice(&random.bytes(32));
     ram[0] &= 0x7F;
     let mut state = Controller {
-        settings,
         output: random.byte(),
         full,
         source: if full {
@@ -79,7 +86,11 @@ pub fn state(random: &mut Random, settings: Settings) -> Controller {
         password: password(random),
         position: 0,
         ram,
+        ..Controller::fresh(settings)
     };
+    if settings.at_mode {
+        draw_at_mode(&mut state, random);
+    }
     maybe_lock(&mut state, random);
     state
 }

@@ -1,6 +1,8 @@
 //! Generators of events and images, and comparison of the library with the
 //! model.
 
+pub mod at_mode_coverage;
+pub mod at_mode_scenes;
 pub mod both;
 pub mod compare;
 pub mod coverage;
@@ -17,7 +19,9 @@ pub mod noisy;
 pub mod pairs;
 pub mod premise;
 pub mod random;
+pub mod refusals;
 pub mod rounds;
+pub mod situations;
 pub mod under_settings;
 pub mod unguided;
 pub mod walker;

@@ -52,10 +52,13 @@ fn arrival(before: &Controller, event: Event) -> Option<Arrival> {
     }
 }
 
-/// All that can come under some settings. Nothing is being sent while locked,
-/// so no time-out comes then.
+/// All that can come under some settings: in AT mode there is no mouse. Nothing
+/// is being sent while locked, so no time-out comes then.
 fn situations(settings: Settings) -> Vec<Situation> {
     let mut all = Vec::new();
+    if settings.at_mode {
+        return all;
+    }
     for bits in 0..8 {
         let situation = |arrival| Situation {
             arrival,
@@ -113,11 +116,12 @@ mod tests {
     #[test]
     fn each_situation_is_asked_for_once() {
         for settings in Settings::ALL {
+            let expected = if settings.at_mode { 0 } else { 8 * 4 + 4 };
             let mut all = situations(settings);
-            assert_eq!(all.len(), 8 * 4 + 4);
+            assert_eq!(all.len(), expected);
             all.sort();
             all.dedup();
-            assert_eq!(all.len(), 8 * 4 + 4);
+            assert_eq!(all.len(), expected);
         }
     }
 

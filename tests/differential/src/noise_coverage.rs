@@ -8,46 +8,55 @@ const DEVICES: [Device; 2] = [Device::Keyboard, Device::Mouse];
 
 type Holds = fn(&Controller) -> bool;
 
-/// What may hold where noise is accepted; more than one of these at a time.
-const STANDINGS: [(&str, Holds); 20] = [
-    ("no error", |state| !has_error(state)),
-    ("TERR", |state| state.timeout_error),
-    ("PERR", |state| state.parity_error),
-    ("break flag", |state| state.break_flag),
-    ("translated", |state| state.mode(mode::TRANSLATE)),
-    ("untranslated", |state| !state.mode(mode::TRANSLATE)),
-    ("untranslated, break flag", |state| {
+/// Whether events from fresh bring it about under some settings.
+type Possible = fn(Settings) -> bool;
+
+const EVER: Possible = |_| true;
+/// It takes a mouse, a loaded code or a polled P1.
+const PS2: Possible = |settings| !settings.at_mode;
+const AT: Possible = |settings| settings.at_mode;
+
+/// What may hold where noise comes; more than one of these at a time.
+const STANDINGS: [(&str, Possible, Holds); 21] = [
+    ("no error", EVER, |state| !has_error(state)),
+    ("TERR", EVER, |state| state.timeout_error),
+    ("PERR", EVER, |state| state.parity_error),
+    ("transmit time-out", AT, |state| state.transmit_timeout),
+    ("break flag", EVER, |state| state.break_flag),
+    ("translated", EVER, |state| state.mode(mode::TRANSLATE)),
+    ("untranslated", EVER, |state| !state.mode(mode::TRANSLATE)),
+    ("untranslated, break flag", EVER, |state| {
         !state.mode(mode::TRANSLATE) && state.break_flag
     }),
-    ("key not turned", |state| !state.key_turned()),
-    ("key turned", |state| state.key_turned()),
-    ("inhibited", |state| state.inhibited()),
-    ("inhibit overridden", overridden),
-    ("a code being loaded", |state| {
+    ("key not turned", EVER, |state| !state.key_turned()),
+    ("key turned", EVER, |state| state.key_turned()),
+    ("inhibited", EVER, |state| state.inhibited()),
+    ("inhibit overridden", EVER, overridden),
+    ("a code being loaded", PS2, |state| {
         state.pending == Pending::Password
     }),
-    ("another code pending", other_pending),
-    ("overlay", |state| state.overlay.is_some()),
-    ("locked before a code", |state| {
+    ("another code pending", EVER, other_pending),
+    ("overlay", PS2, |state| state.overlay.is_some()),
+    ("locked before a code", PS2, |state| {
         state.locked && state.position == 0
     }),
-    ("within a code", within),
-    ("within a code, TERR", |state| {
+    ("within a code", PS2, within),
+    ("within a code, TERR", PS2, |state| {
         within(state) && state.timeout_error
     }),
-    ("within a code, PERR", |state| {
+    ("within a code, PERR", PS2, |state| {
         within(state) && state.parity_error
     }),
-    ("within a code, break flag", |state| {
+    ("within a code, break flag", PS2, |state| {
         within(state) && state.break_flag
     }),
-    ("within a code, inhibited", |state| {
+    ("within a code, inhibited", PS2, |state| {
         within(state) && state.inhibited()
     }),
 ];
 
 fn has_error(state: &Controller) -> bool {
-    state.timeout_error || state.parity_error
+    state.transmit_timeout || state.timeout_error || state.parity_error
 }
 
 fn overridden(state: &Controller) -> bool {
@@ -76,10 +85,11 @@ fn causes(state: &Controller, device: Device) -> [bool; CAUSES.len()] {
 
 #[derive(Clone, Debug, Default)]
 struct Counts {
-    accepted: [usize; STANDINGS.len()],
-    /// Accepted while the mouse lock kept the mouse from the host.
+    /// Accepted, or refused by 12, for which the state does not matter.
+    came: [usize; STANDINGS.len()],
+    /// The same while the mouse lock kept the mouse from the host.
     kept_back: usize,
-    /// Refused for this cause and no other.
+    /// Refused with this cause for refusal 5 and no other.
     refused: [usize; CAUSES.len()],
 }
 
@@ -110,11 +120,13 @@ impl NoiseCoverage {
 
 impl Counts {
     fn note(&mut self, before: &Controller, device: Device, refusal: u8) {
-        if refusal == 0 {
-            for (count, (_, holds)) in self.accepted.iter_mut().zip(STANDINGS) {
+        if refusal != 5 {
+            for (count, (_, _, holds)) in self.came.iter_mut().zip(STANDINGS) {
                 *count += usize::from(holds(before));
             }
             self.kept_back += usize::from(before.mouse_inhibited());
+        }
+        if refusal == 0 {
             return;
         }
         let causes = causes(before, device);
@@ -125,9 +137,10 @@ impl Counts {
     }
 
     fn reached(&self, settings: Settings, device: Device) -> Vec<(usize, String)> {
-        let accepted = self.accepted.iter().zip(STANDINGS);
-        let mut all: Vec<_> = accepted
-            .map(|(&count, (name, _))| (count, format!("{device:?} noise, {name}")))
+        let came = self.came.iter().zip(STANDINGS);
+        let mut all: Vec<_> = came
+            .filter(|(_, (_, possible, _))| possible(settings))
+            .map(|(&count, (name, _, _))| (count, format!("{device:?} noise, {name}")))
             .collect();
         if settings.mouse_lock {
             let name = format!("{device:?} noise, mouse lock and key turned");
@@ -145,7 +158,7 @@ impl Counts {
 mod tests {
     use super::*;
     use crate::event::kind;
-    use crate::under_settings::{MOUSE_LOCK, ORDINARY};
+    use crate::under_settings::{AT_MODE, MOUSE_LOCK, ORDINARY};
 
     fn on() -> Controller {
         on_under(ORDINARY)
@@ -200,6 +213,28 @@ mod tests {
             "within a code, inhibited",
         ];
         assert_eq!(reached(&state, mouse_noise()), named("Mouse", &expected));
+    }
+
+    /// What the noise of the mouse is refused by there does not look at the
+    /// state, so it counts wherever it comes.
+    #[test]
+    fn at_mode_counts_by_what_it_has() {
+        let mut state = on_under(AT_MODE);
+        state.transmit_timeout = true;
+        state.put(0x14, Device::Keyboard);
+        let of_mouse = [
+            "Mouse noise, transmit time-out",
+            "Mouse noise, translated",
+            "Mouse noise, key not turned",
+            "Mouse noise refused, full",
+        ];
+        assert_eq!(reached(&state, mouse_noise()), of_mouse);
+        let full = reached(&state, keyboard_noise());
+        assert_eq!(full, ["Keyboard noise refused, full"]);
+        state.full = false;
+        state.locked = true;
+        let of_keyboard = reached(&state, keyboard_noise());
+        assert_eq!(of_keyboard.len(), 3, "{of_keyboard:?}");
     }
 
     #[test]

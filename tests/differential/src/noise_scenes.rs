@@ -1,19 +1,20 @@
 //! States that noise could spoil, made by events, and what comes after them.
 
+use crate::at_mode_scenes;
 use crate::event::{Event, kind};
 use model::{Controller, Device, Pending, Settings, mode};
 
-const BROKEN: u16 = 1022;
-const WRONG_PARITY: u16 = 0x428;
+pub(crate) const BROKEN: u16 = 1022;
+pub(crate) const WRONG_PARITY: u16 = 0x428;
 /// P1 with the key switch turned.
-const TURNED: u8 = 0x7F;
+pub(crate) const TURNED: u8 = 0x7F;
 /// What the lock puts when it opens.
 const OPENED: u8 = 0x99;
 
 /// A byte that a read gives, and its old mark.
 pub type Read = [u8; 2];
 
-type Holds = fn(&Controller) -> bool;
+pub type Holds = fn(&Controller) -> bool;
 
 pub struct Scene {
     pub name: &'static str,
@@ -30,6 +31,14 @@ pub struct Scene {
 }
 
 pub fn scenes(settings: Settings) -> Vec<Scene> {
+    if settings.at_mode {
+        at_mode_scenes::scenes()
+    } else {
+        scenes_in_ps2_mode(settings)
+    }
+}
+
+fn scenes_in_ps2_mode(settings: Settings) -> Vec<Scene> {
     let mut all = waiting();
     all.extend(errors());
     all.extend(breaks());
@@ -42,7 +51,7 @@ pub fn scenes(settings: Settings) -> Vec<Scene> {
     all
 }
 
-fn keyboard(value: u16) -> Event {
+pub(crate) fn keyboard(value: u16) -> Event {
     Event::new(kind::KEYBOARD_FRAME, value)
 }
 
@@ -50,7 +59,7 @@ fn mouse(value: u16) -> Event {
     Event::new(kind::MOUSE_FRAME, value)
 }
 
-fn write(command: u8, data: u8) -> [Event; 2] {
+pub(crate) fn write(command: u8, data: u8) -> [Event; 2] {
     [Event::command(command), Event::data(data)]
 }
 
@@ -61,7 +70,7 @@ fn on(events: &[Event]) -> Vec<Event> {
 }
 
 /// The key 1Ch and a read of what it gives.
-fn key_and_read() -> Vec<Event> {
+pub(crate) fn key_and_read() -> Vec<Event> {
     vec![Event::key(0x1C), Event::read()]
 }
 

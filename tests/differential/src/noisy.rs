@@ -1,9 +1,9 @@
 //! Lists with noise put in between their events.
 
-use crate::event::Event;
+use crate::event::{Event, kind};
 use crate::random::Random;
 use crate::unguided;
-use model::{ANSWER_SIZE, EVENT_SIZE};
+use model::{ANSWER_SIZE, EVENT_SIZE, Settings};
 
 #[derive(Default)]
 pub struct Noisy {
@@ -23,6 +23,15 @@ pub fn with_noise(random: &mut Random, quiet: &[u8], percent: usize) -> Noisy {
     }
     noisy.put_noise(random, percent);
     noisy
+}
+
+/// What noise may be answered with.
+fn refusals(settings: Settings, noise: Event) -> &'static [u8] {
+    if settings.at_mode && noise.kind == kind::MOUSE_FRAME {
+        &[12]
+    } else {
+        &[0, 5]
+    }
 }
 
 impl Noisy {
@@ -47,16 +56,19 @@ impl Noisy {
     }
 
     /// Checks that the answer to noise that was put in shows the lines of the
-    /// answer before it, or of the start, and that nothing but check 5 refused it.
-    pub fn assert_lines_stand(&self, start: &[u8; ANSWER_SIZE], answers: &[u8]) {
+    /// answer before it, or of the start, and that nothing but check 5 refused
+    /// it, or 12 that of the mouse in AT mode.
+    pub fn assert_lines_stand(
+        &self,
+        settings: Settings,
+        start: &[u8; ANSWER_SIZE],
+        answers: &[u8],
+    ) {
         let mut before: &[u8] = start;
-        for (answer, put_in) in answers.chunks_exact(ANSWER_SIZE).zip(&self.put_in) {
-            if *put_in {
-                assert!(
-                    [0, 5].contains(&answer[0]),
-                    "noise refused by {}",
-                    answer[0]
-                );
+        for (answer, (event, put_in)) in answers.chunks_exact(ANSWER_SIZE).zip(self.events()) {
+            if put_in {
+                let refusals = refusals(settings, event);
+                assert!(refusals.contains(&answer[0]), "refused by {}", answer[0]);
                 assert_eq!(answer[1..3], [0, 0], "byte read and old mark");
                 assert_eq!(answer[3..5], before[3..5], "status and P2");
                 assert_eq!(answer[5], 0, "pulse");
@@ -71,6 +83,7 @@ impl Noisy {
 mod tests {
     use super::*;
     use crate::lists;
+    use crate::under_settings::{AT_MODE, ORDINARY};
 
     #[test]
     fn without_what_was_put_in_the_list_is_there() {
@@ -111,12 +124,36 @@ mod tests {
             put_in: vec![true],
         };
         let start = [0, 0, 0, 0x10, 0x4B, 0, 0, 0, 0];
-        noisy.assert_lines_stand(&start, &[5, 0, 0, 0x10, 0x4B, 0, 0, 0, 0]);
+        let stands = |answer: [u8; ANSWER_SIZE]| {
+            let look = || noisy.assert_lines_stand(ORDINARY, &start, &answer);
+            std::panic::catch_unwind(look).is_ok()
+        };
+        assert!(stands([5, 0, 0, 0x10, 0x4B, 0, 0, 0, 0]));
         for at in 0..ANSWER_SIZE {
             let mut moved = start;
             moved[at] ^= 1;
-            let looked = std::panic::catch_unwind(|| noisy.assert_lines_stand(&start, &moved));
-            assert!(looked.is_err(), "byte {at}");
+            assert!(!stands(moved), "byte {at}");
+        }
+    }
+
+    #[test]
+    fn only_12_refuses_the_mouse_in_at_mode() {
+        let lines = |refusal| [refusal, 0, 0, 0x10, 0xCF, 0, 0, 0, 0];
+        for (settings, kind, allowed) in [
+            (ORDINARY, 4, &[0, 5][..]),
+            (ORDINARY, 5, &[0, 5]),
+            (AT_MODE, 4, &[0, 5]),
+            (AT_MODE, 5, &[12]),
+        ] {
+            let noisy = Noisy {
+                list: vec![kind, 1, 0],
+                put_in: vec![true],
+            };
+            for refusal in 0..=12 {
+                let look = || noisy.assert_lines_stand(settings, &lines(0), &lines(refusal));
+                let stands = std::panic::catch_unwind(look).is_ok();
+                assert_eq!(stands, allowed.contains(&refusal), "{kind} by {refusal}");
+            }
         }
     }
 }

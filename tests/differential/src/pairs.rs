@@ -17,7 +17,9 @@ pub struct PairCoverage {
     pub progressed_apart: usize,
     /// Pairs in which both lists tried a wrong key, and not the same one.
     pub wrong_apart: usize,
-    /// Pairs in which the lock opened for two different codes.
+    /// Pairs in which the lock opened.
+    pub opened: usize,
+    /// Pairs in which it opened for two different codes.
     pub opened_apart: usize,
     /// Pairs in which that happened more than once.
     pub reopened_apart: usize,
@@ -41,7 +43,8 @@ struct Seen {
     locked: bool,
     progressed: bool,
     wrong: bool,
-    opened: usize,
+    opened: bool,
+    opened_apart: usize,
     refused: bool,
     key_turned: bool,
     noise: SeenNoise,
@@ -70,13 +73,24 @@ struct Builder {
     seen: Seen,
 }
 
-/// Builds a pair of at most `length` events, both under the same settings.
+/// Builds a pair of at most `length` events, both from fresh under the same
+/// settings.
 pub fn build(settings: Settings, seed: u64, length: usize, coverage: &mut PairCoverage) -> Pair {
+    build_from(&Controller::fresh(settings), seed, length, coverage)
+}
+
+/// The same from a given state.
+pub fn build_from(
+    state: &Controller,
+    seed: u64,
+    length: usize,
+    coverage: &mut PairCoverage,
+) -> Pair {
     let mut builder = Builder {
         walker: Walker::new(seed),
         random: Random::new(!seed),
-        first: Controller::fresh(settings),
-        second: Controller::fresh(settings),
+        first: state.clone(),
+        second: state.clone(),
         seen: Seen::default(),
     };
     let mut pair = Pair {
@@ -101,8 +115,9 @@ impl Seen {
         coverage.locked_apart += usize::from(self.locked);
         coverage.progressed_apart += usize::from(self.progressed);
         coverage.wrong_apart += usize::from(self.wrong);
-        coverage.opened_apart += usize::from(self.opened > 0);
-        coverage.reopened_apart += usize::from(self.opened > 1);
+        coverage.opened += usize::from(self.opened);
+        coverage.opened_apart += usize::from(self.opened_apart > 0);
+        coverage.reopened_apart += usize::from(self.opened_apart > 1);
         coverage.refused_apart += usize::from(self.refused);
         coverage.key_turned += usize::from(self.key_turned);
         coverage.noise_within += usize::from(self.noise.within);
@@ -183,7 +198,8 @@ impl Builder {
         self.seen.wrong |= keys_differ && !refused && !opened && at_start;
         self.seen.locked |= first.locked && codes_differ;
         self.seen.progressed |= first.position != second.position;
-        self.seen.opened += usize::from(opened && codes_differ);
+        self.seen.opened |= opened;
+        self.seen.opened_apart += usize::from(opened && codes_differ);
         self.seen.refused |= keys_differ && refused;
         let mouse_frame = one.kind == kind::MOUSE_FRAME && !refused;
         self.seen.key_turned |= mouse_frame && self.first.key_turned();

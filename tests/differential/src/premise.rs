@@ -31,11 +31,16 @@ pub fn opens(state: &mut Controller, event: Event) -> bool {
 /// True when the two lists, which share the settings, differ only in secrets
 /// and open at the same places.
 pub fn comparable(settings: Settings, first: &[u8], second: &[u8]) -> bool {
+    comparable_from(&Controller::fresh(settings), first, second)
+}
+
+/// The same of two lists from a given state.
+pub fn comparable_from(state: &Controller, first: &[u8], second: &[u8]) -> bool {
     if first.len() != second.len() {
         return false;
     }
-    let mut first_state = Controller::fresh(settings);
-    let mut second_state = Controller::fresh(settings);
+    let mut first_state = state.clone();
+    let mut second_state = state.clone();
     let places = first
         .chunks_exact(EVENT_SIZE)
         .zip(second.chunks_exact(EVENT_SIZE));
@@ -74,13 +79,19 @@ mod tests {
         .collect()
     }
 
+    /// In AT mode no code is loaded from fresh, so no two lists differ in
+    /// secrets only.
     fn secrets_may_differ_where_the_lock_opens_alike(settings: Settings) {
         let pair = |one: &[u8], other: &[u8]| comparable(settings, one, other);
+        let loads = !settings.at_mode;
         let opened = list([0x1E, 0x30], [0x1C, 0x32]);
-        assert!(pair(&opened, &list([0x30, 0x1E], [0x32, 0x1C])));
+        assert!(pair(&opened, &opened));
+        let other_opened = list([0x30, 0x1E], [0x32, 0x1C]);
+        assert_eq!(pair(&opened, &other_opened), loads);
         assert!(!pair(&opened, &list([0x1E, 0x30], [0x1C, 0x1C])));
         assert!(!pair(&opened, &list([0x30, 0x30], [0x1C, 0x32])));
-        assert!(pair(&list([1, 2], [3, 4]), &list([0xFF, 0x80], [0x7F, 1])));
+        let shut = [list([1, 2], [3, 4]), list([0xFF, 0x80], [0x7F, 1])];
+        assert_eq!(pair(&shut[0], &shut[1]), loads);
     }
 
     fn nothing_else_may_differ(settings: Settings) {
@@ -93,6 +104,20 @@ mod tests {
         let mut other_command = base.clone();
         other_command[1] = 0xA8;
         assert!(!pair(&base, &other_command));
+    }
+
+    /// The lock is shut from the start, in AT mode too.
+    fn keys_may_differ_from_a_locked_state(settings: Settings) {
+        let mut state = Controller::fresh(settings);
+        state.clear_mode(mode::KEYBOARD_OFF);
+        state.password.push(0x1E);
+        state.locked = true;
+        let list = |key| Event::key(key).to_bytes();
+        let [right, wrong, other] = [0x1C, 0x32, 0x21].map(list);
+        assert!(comparable_from(&state, &wrong, &other));
+        assert!(comparable_from(&state, &right, &right));
+        assert!(!comparable_from(&state, &wrong, &right));
+        assert!(!comparable(settings, &wrong, &other));
     }
 
     /// A mouse byte that waits unread has the key refused. The mouse lock keeps
@@ -146,7 +171,8 @@ mod tests {
     }
 
     /// Noise between the keys, the same in both lists, leaves two different
-    /// codes comparable; other noise in one of them does not.
+    /// codes comparable, where there are codes; other noise in one of them does
+    /// not.
     fn noise_must_be_the_same_in_both_lists(settings: Settings) {
         let noisy = |code, keys, noise: u16| -> Vec<u8> {
             let mut list = list(code, keys);
@@ -157,7 +183,8 @@ mod tests {
         };
         let opened = noisy([0x1E, 0x30], [0x1C, 0x32], 0x629);
         let same_noise = noisy([0x30, 0x1E], [0x32, 0x1C], 0x629);
-        assert!(comparable(settings, &opened, &same_noise));
+        let comparable_codes = comparable(settings, &opened, &same_noise);
+        assert_eq!(comparable_codes, !settings.at_mode);
         for value in noise_values().filter(|&value| value != 0x629) {
             let other_noise = noisy([0x30, 0x1E], [0x32, 0x1C], value);
             assert!(!comparable(settings, &opened, &other_noise), "{value:03X}");
@@ -172,6 +199,7 @@ mod tests {
     crate::under_every_setting!(
         secrets_may_differ_where_the_lock_opens_alike,
         nothing_else_may_differ,
+        keys_may_differ_from_a_locked_state,
         noise_may_not_differ_while_locked,
         noise_must_be_the_same_in_both_lists,
     );

@@ -3,7 +3,9 @@
 use model::Settings;
 
 pub const ORDINARY: Settings = Settings::ORDINARY;
-pub const MOUSE_LOCK: Settings = Settings { mouse_lock: true };
+pub const MOUSE_LOCK: Settings = Settings::MOUSE_LOCK;
+pub const AT_MODE: Settings = Settings::AT_MODE;
+pub const AT_MODE_AND_MOUSE_LOCK: Settings = Settings::AT_MODE_AND_MOUSE_LOCK;
 
 /// Makes a test of each function for every choice, named after the choice.
 #[macro_export]
@@ -18,6 +20,16 @@ macro_rules! under_every_setting {
             #[test]
             fn mouse_lock() {
                 super::$test($crate::under_settings::MOUSE_LOCK);
+            }
+
+            #[test]
+            fn at_mode() {
+                super::$test($crate::under_settings::AT_MODE);
+            }
+
+            #[test]
+            fn at_mode_and_mouse_lock() {
+                super::$test($crate::under_settings::AT_MODE_AND_MOUSE_LOCK);
             }
         }
     )+};
@@ -34,6 +46,7 @@ mod tests {
 
     #[test]
     fn every_choice_has_its_tests() {
-        assert_eq!([ORDINARY, MOUSE_LOCK], Settings::ALL);
+        let tested = [ORDINARY, MOUSE_LOCK, AT_MODE, AT_MODE_AND_MOUSE_LOCK];
+        assert_eq!(tested, Settings::ALL);
     }
 }

@@ -1,5 +1,7 @@
 //! Chooses events that make sense in the state at hand.
 
+mod at_mode;
+
 use crate::event::{Event, kind};
 use crate::keys;
 use crate::random::Random;
@@ -18,12 +20,15 @@ pub struct Walker {
     stray: usize,
     /// Nonzero bytes wanted in the code being loaded.
     code_length: usize,
+    /// A command that AT mode switches off has come, and no byte after it.
+    data_due: bool,
 }
 
 /// Share of events, in percent, that are noise: some in every state, more
 /// where there is something that noise could spoil.
 fn noise_share(state: &Controller) -> usize {
-    let flagged = state.timeout_error || state.parity_error || state.break_flag;
+    let time_out = state.transmit_timeout || state.timeout_error;
+    let flagged = time_out || state.parity_error || state.break_flag;
     match (flagged, state.position > 0) {
         (false, false) => 2,
         (true, true) => 25,
@@ -39,6 +44,7 @@ impl Walker {
             random,
             stray,
             code_length: 0,
+            data_due: false,
         }
     }
 
@@ -51,6 +57,8 @@ impl Walker {
         }
         if state.locked {
             self.while_locked(state)
+        } else if state.settings.at_mode {
+            self.while_open_in_at_mode(state)
         } else if state.sending.is_some() {
             self.while_sending()
         } else if state.pending != Pending::None {

@@ -6,10 +6,11 @@ use differential::event::{Event, kind};
 use differential::images;
 use differential::lists;
 use differential::random::Random;
+use differential::refusals::{self, Refusals};
 use differential::rounds::rounds;
 use differential::under_settings::seed;
 use differential::walks::walk;
-use model::{Controller, Device, EVENT_SIZE, IMAGE_SIZE, Settings, mode};
+use model::{Controller, Device, EVENT_SIZE, IMAGE_SIZE, Pending, Settings, mode};
 
 const WALKED_EVENTS: usize = 1_500_000;
 const DRAWN_STATES: usize = 6_000;
@@ -45,7 +46,8 @@ fn walks_from_drawn_states(settings: Settings) {
             &mut coverage,
         );
     }
-    assert!(coverage.opens > 200 && coverage.locks > 200);
+    assert!(coverage.opens > 200);
+    assert!(settings.at_mode || coverage.locks > 200);
 }
 
 /// Fresh, a full buffer, the key switch turned with its inhibit overridden or
@@ -75,34 +77,34 @@ fn standing_states(random: &mut Random, settings: Settings) -> Vec<Controller> {
 
 fn every_event_in_some_states(settings: Settings) {
     let mut random = Random::new(seed(settings, 63));
-    let mut refusals = [0; 7];
+    let mut refusals = Refusals::default();
     for state in standing_states(&mut random, settings) {
         for kind in 0..=10 {
             for value in 0..0x880 {
                 let mut both = Both::of(&mut random, &state);
                 let answer = both.event(&mut random, Event::new(kind, value));
-                refusals[usize::from(answer[0])] += 1;
+                refusals.note(answer[0]);
             }
         }
     }
     println!("{refusals:?}");
-    assert!(refusals.iter().all(|&count| count > 0));
+    assert!(refusals.least(refusals::in_any_state(settings)) > 0);
 }
 
 /// Every kind near the ones that there are, with every value.
 fn every_event_asked_about(settings: Settings) {
     let mut random = Random::new(seed(settings, 64));
-    let mut refusals = [0; 7];
+    let mut refusals = Refusals::default();
     for state in standing_states(&mut random, settings) {
         let both = Both::of(&mut random, &state);
         for kind in (0..=10).chain([16, 128, 255]) {
             for value in 0..=u16::MAX {
-                refusals[usize::from(both.refusal(Event::new(kind, value)))] += 1;
+                refusals.note(both.refusal(Event::new(kind, value)));
             }
         }
     }
     println!("{refusals:?}");
-    assert!(refusals.iter().all(|&count| count > 0));
+    assert!(refusals.least(refusals::in_any_state(settings)) > 0);
 }
 
 /// One list on one state, in pieces that are lists and single events in turn.
@@ -136,7 +138,12 @@ fn lists_go_on_from_the_state(settings: Settings) {
         run_in_pieces(&mut both, &mut random, &list);
         assert_eq!(both.model, end);
     }
-    assert!(coverage.locks > 200 && coverage.opens > 200);
+    // In AT mode a lock is drawn shut, in every third list or so, and opens once.
+    if settings.at_mode {
+        assert!(coverage.opens > 50, "{}", coverage.opens);
+    } else {
+        assert!(coverage.locks > 200 && coverage.opens > 200);
+    }
 }
 
 fn refused_lists_leave_the_state(settings: Settings) {
@@ -158,7 +165,7 @@ fn refused_lists_leave_the_state(settings: Settings) {
     }
 }
 
-/// All but the options, which a load makes the ordinary ones.
+/// All but what stands behind the body, which a load makes ordinary.
 fn what_is_saved_begins_with_the_body_and_is_loaded_again(settings: Settings) {
     let mut random = Random::new(seed(settings, 67));
     for _ in 0..DRAWN_STATES * rounds() {
@@ -170,7 +177,7 @@ fn what_is_saved_begins_with_the_body_and_is_loaded_again(settings: Settings) {
         let mut other = Both::started(&mut random, settings);
         assert_eq!(other.load(&saved), 0);
         assert_eq!(other.bytes()[..60], both.bytes()[..60]);
-        assert_eq!(other.bytes()[60], panel::ORDINARY);
+        assert_eq!(other.bytes()[60..], [panel::ORDINARY, 0, 0x03, 0]);
     }
 }
 
@@ -189,10 +196,21 @@ const CODE: [u8; 16] = [
     0x81, 0x82, 0x83, 0x84, 0x85, 0x86, 0x87, 0x88, 0x89, 0x8A, 0x8B, 0x8C, 0x8D, 0x8E, 0x8F, 0x91,
 ];
 
-/// A controller with the first bytes of the code loaded, the load ended or not.
-fn with_code(random: &mut Random, settings: Settings, length: usize, ended: bool) -> Both {
+/// A controller that is ready to load a code. In AT mode no event makes one.
+fn before_load(random: &mut Random, settings: Settings) -> Both {
+    if settings.at_mode {
+        let mut state = Controller::fresh(settings);
+        state.pending = Pending::Password;
+        return Both::of(random, &state);
+    }
     let mut both = Both::started(random, settings);
     both.event(random, Event::command(0xA5));
+    both
+}
+
+/// A controller with the first bytes of the code loaded, the load ended or not.
+fn with_code(random: &mut Random, settings: Settings, length: usize, ended: bool) -> Both {
+    let mut both = before_load(random, settings);
     for &byte in &CODE[..length] {
         both.event(random, Event::data(byte));
     }
@@ -209,12 +227,37 @@ fn assert_no_code(both: &Both, how: &str) {
     assert!(bytes.iter().all(|byte| !CODE.contains(byte)), "{how}");
 }
 
+/// A code that is whole is dropped by A5h.
+fn assert_new_loads_drop(random: &mut Random, settings: Settings, length: usize) {
+    let mut both = with_code(random, settings, length, true);
+    both.event(random, Event::command(0xA5));
+    assert_no_code(&both, "a new load");
+    let mut both = with_code(random, settings, length, true);
+    let list = [kind::WRITE_COMMAND, 0xA5, 0];
+    assert_eq!(both.run(random, &list, 9), 0);
+    assert_no_code(&both, "a new load in a list");
+}
+
+/// In AT mode A5h is an unknown command, which cuts a load short and leaves a
+/// code that is whole.
+fn a_whole_code_is_left_by_what_does_not_load(settings: Settings) {
+    let mut random = Random::new(seed(settings, 70));
+    let drops = |command| !settings.at_mode && command == 0xA5;
+    for length in 1..=16 {
+        for command in (0..=0xFF).filter(|&command| !drops(command)) {
+            let mut both = with_code(&mut random, settings, length, true);
+            both.event(&mut random, Event::command(command));
+            assert_eq!(both.bytes()[12..12 + length], CODE[..length]);
+        }
+    }
+}
+
 fn a_dropped_code_leaves_zeros(settings: Settings) {
     let mut random = Random::new(seed(settings, 69));
     for length in 1..=16 {
-        let mut both = with_code(&mut random, settings, length, true);
-        both.event(&mut random, Event::command(0xA5));
-        assert_no_code(&both, "a new load");
+        if !settings.at_mode {
+            assert_new_loads_drop(&mut random, settings, length);
+        }
         for command in [0x00, 0x20, 0xA4, 0xA5, 0xA6, 0xAA, 0xFF] {
             let mut both = with_code(&mut random, settings, length, false);
             both.event(&mut random, Event::command(command));
@@ -223,10 +266,6 @@ fn a_dropped_code_leaves_zeros(settings: Settings) {
         let mut both = with_code(&mut random, settings, length, true);
         assert_eq!(both.load(&model::save(&Controller::fresh(settings))), 0);
         assert_no_code(&both, "another state loaded");
-        let mut both = with_code(&mut random, settings, length, true);
-        let list = [kind::WRITE_COMMAND, 0xA5, 0];
-        assert_eq!(both.run(&mut random, &list, 9), 0);
-        assert_no_code(&both, "a new load in a list");
     }
     let mut both = with_code(&mut random, settings, 16, false);
     both.event(&mut random, Event::data(0x92));
@@ -242,5 +281,6 @@ differential::under_every_setting!(
     refused_lists_leave_the_state,
     what_is_saved_begins_with_the_body_and_is_loaded_again,
     saves_of_every_size,
+    a_whole_code_is_left_by_what_does_not_load,
     a_dropped_code_leaves_zeros,
 );

@@ -10,6 +10,7 @@ use differential::noise_coverage::NoiseCoverage;
 use differential::noise_scenes::{Scene, scenes};
 use differential::noisy::{Noisy, with_noise};
 use differential::random::Random;
+use differential::refusals::Refusals;
 use differential::rounds::rounds;
 use differential::under_settings::seed;
 use differential::unguided;
@@ -128,7 +129,7 @@ fn noise_put_in_changes_no_other_answer(settings: Settings) {
         let others = noisy.answers_to_others(&answers);
         assert!(others == expected, "answers of list {number}");
         assert_eq!(noisy_end.bytes(), end.bytes(), "end of list {number}");
-        noisy.assert_lines_stand(&first_lines(settings), &answers);
+        noisy.assert_lines_stand(settings, &first_lines(settings), &answers);
         note_places(settings, &noisy, &mut places);
         number += 1;
     }
@@ -147,7 +148,7 @@ differential::under_every_setting!(
 #[test]
 fn noise_saves_the_image_that_it_was_given() {
     let mut random = Random::new(103);
-    let mut refusals = [0; 7];
+    let mut refusals = Refusals::default();
     for _ in 0..DRAWN_IMAGES * rounds() {
         let image = images::image(&mut random);
         let length = random.below(20);
@@ -159,12 +160,11 @@ fn noise_saves_the_image_that_it_was_given() {
         let written = compare::run_image(&mut random, &bytes, &list, room);
         assert_eq!(written.saved, image);
         for answer in written.answers.chunks_exact(ANSWER_SIZE) {
-            refusals[usize::from(answer[0])] += 1;
+            refusals.note(answer[0]);
         }
     }
     println!("{refusals:?}");
-    assert!(refusals[0] > DRAWN_IMAGES && refusals[5] > DRAWN_IMAGES);
-    assert_eq!(refusals[0] + refusals[5], refusals.iter().sum());
+    assert!(refusals.least(&[0, 5]) > DRAWN_IMAGES);
 }
 
 /// A list with noise in it saves the same image as without, from states that

@@ -1,20 +1,38 @@
 //! Lists that differ in secrets only are answered alike.
 
+use differential::images;
 use differential::pairs::{self, Pair, PairCoverage};
-use differential::premise::comparable;
+use differential::premise::{comparable, comparable_from};
 use differential::random::Random;
 use differential::rounds::rounds;
 use differential::under_settings::seed;
-use model::Settings;
+use model::{Controller, Settings, mode, state_bytes};
+use panel::State;
 
 const PAIRS: usize = 8_000;
+/// In AT mode no code can be loaded from fresh, so the lists of a pair are the
+/// same there and need no more than this.
+const EQUAL_PAIRS: usize = 500;
+const DRAWN_STATES: usize = 3_000;
 
-/// Runs both lists in buffers that begin alike and compares all of them.
+/// Runs both lists from fresh in buffers that begin alike and compares all of
+/// them.
 fn assert_alike(random: &mut Random, settings: Settings, pair: &Pair, room: usize) -> u8 {
+    let run = |list: &[u8], answers: &mut [u8]| panel::run(settings.options(), list, answers);
+    assert_alike_by(run, random, pair, room)
+}
+
+/// The same by a call that runs a list from wherever it starts.
+fn assert_alike_by(
+    run: impl Fn(&[u8], &mut [u8]) -> u8,
+    random: &mut Random,
+    pair: &Pair,
+    room: usize,
+) -> u8 {
     let blank = random.bytes(room);
     let (mut first, mut second) = (blank.clone(), blank);
-    let refusal = panel::run(settings.options(), &pair.first, &mut first);
-    let other = panel::run(settings.options(), &pair.second, &mut second);
+    let refusal = run(&pair.first, &mut first);
+    let other = run(&pair.second, &mut second);
     assert_eq!(refusal, other, "refusals");
     let apart = first
         .iter()
@@ -35,23 +53,30 @@ fn assert_alike(random: &mut Random, settings: Settings, pair: &Pair, room: usiz
 
 /// Without these the comparison would say little.
 fn assert_reached(coverage: &PairCoverage) {
+    assert_shares(
+        coverage,
+        &[
+            (coverage.locked_apart, 70, "locked with different codes"),
+            (coverage.progressed_apart, 50, "right in one list only"),
+            (coverage.wrong_apart, 50, "different wrong keys"),
+            (coverage.opened_apart, 50, "opened with different codes"),
+            (coverage.reopened_apart, 30, "opened so more than once"),
+            (coverage.refused_apart, 25, "different keys refused"),
+            (coverage.key_turned, 40, "mouse frames with the key turned"),
+            (coverage.noise_within, 40, "noise within different codes"),
+            (coverage.noise_progressed_apart, 20, "noise with one ahead"),
+            (coverage.opened_over_noise, 25, "opened with noise between"),
+        ],
+    );
+}
+
+/// Counts with the share of the pairs, in percent, that each must have.
+fn assert_shares(coverage: &PairCoverage, wanted: &[(usize, usize, &str)]) {
     println!("{coverage:?}");
-    let wanted = [
-        (coverage.locked_apart, 70, "locked with different codes"),
-        (coverage.progressed_apart, 50, "right in one list only"),
-        (coverage.wrong_apart, 50, "different wrong keys"),
-        (coverage.opened_apart, 50, "opened with different codes"),
-        (coverage.reopened_apart, 30, "opened so more than once"),
-        (coverage.refused_apart, 25, "different keys refused"),
-        (coverage.key_turned, 40, "mouse frames with the key turned"),
-        (coverage.noise_within, 40, "noise within different codes"),
-        (coverage.noise_progressed_apart, 20, "noise with one ahead"),
-        (coverage.opened_over_noise, 25, "opened with noise between"),
-    ];
     for (count, percent, what) in wanted {
         let share = count * 100 / coverage.pairs;
         assert!(
-            share >= percent,
+            share >= *percent,
             "{what}: {share} percent of the pairs, {percent} wanted"
         );
     }
@@ -60,7 +85,8 @@ fn assert_reached(coverage: &PairCoverage) {
 fn pairs_are_answered_alike(settings: Settings) {
     let mut random = Random::new(seed(settings, 51));
     let mut coverage = PairCoverage::default();
-    for number in 0..(PAIRS * rounds()) as u64 {
+    let pairs = if settings.at_mode { EQUAL_PAIRS } else { PAIRS };
+    for number in 0..(pairs * rounds()) as u64 {
         let length = random.pick(&[100, 300, 300, 1_000, 3_000]);
         let seed = seed(settings, 700_000 + number);
         let pair = pairs::build(settings, seed, length, &mut coverage);
@@ -68,8 +94,49 @@ fn pairs_are_answered_alike(settings: Settings) {
         assert!(comparable, "pair {number}");
         let room = pair.first.len() * 3 + random.below(20);
         assert_eq!(assert_alike(&mut random, settings, &pair, room), 0);
+        assert!(!settings.at_mode || pair.first == pair.second);
     }
-    assert_reached(&coverage);
+    if !settings.at_mode {
+        assert_reached(&coverage);
+    }
+}
+
+/// A state with a lock that is shut and can be typed at.
+fn locked(random: &mut Random, settings: Settings) -> Controller {
+    loop {
+        let mut state = images::state(random, settings);
+        if state.locked {
+            state.clear_mode(mode::KEYBOARD_OFF);
+            return state;
+        }
+    }
+}
+
+/// Pairs from a state that is locked at the start, which in AT mode no events
+/// make. They differ in the keys that are tried.
+fn pairs_from_locked_states_are_answered_alike(settings: Settings) {
+    let mut random = Random::new(seed(settings, 53));
+    let mut coverage = PairCoverage::default();
+    for number in 0..(DRAWN_STATES * rounds()) as u64 {
+        let state = locked(&mut random, settings);
+        let seed = seed(settings, 1_000_000 + number);
+        let pair = pairs::build_from(&state, seed, 200, &mut coverage);
+        let comparable = comparable_from(&state, &pair.first, &pair.second);
+        assert!(comparable, "pair {number}");
+        let bytes = state_bytes(&state);
+        let run = |list: &[u8], answers: &mut [u8]| State::from_bytes(bytes).run(list, answers);
+        let room = pair.first.len() * 3 + random.below(20);
+        assert_eq!(assert_alike_by(run, &mut random, &pair, room), 0);
+    }
+    assert_shares(
+        &coverage,
+        &[
+            (coverage.progressed_apart, 30, "right in one list only"),
+            (coverage.wrong_apart, 30, "different wrong keys"),
+            (coverage.refused_apart, 1, "different keys refused"),
+            (coverage.opened, 30, "opened"),
+        ],
+    );
 }
 
 /// The whole call refuses both lists by the same number too.
@@ -105,6 +172,7 @@ fn model_answers_pairs_alike(settings: Settings) {
 
 differential::under_every_setting!(
     pairs_are_answered_alike,
+    pairs_from_locked_states_are_answered_alike,
     refused_pairs_are_refused_alike,
     model_answers_pairs_alike,
 );

@@ -6,38 +6,140 @@ use differential::event::{Event, kind};
 use differential::fenced::Fenced;
 use differential::guarded::Guarded;
 use differential::images;
+use differential::lists;
 use differential::random::Random;
-use differential::under_settings::MOUSE_LOCK;
+use differential::under_settings::{AT_MODE, AT_MODE_AND_MOUSE_LOCK, MOUSE_LOCK};
 use model::{Controller, IMAGE_SIZE, Settings, state_bytes};
 
 /// The mouse on, the key switch turned, a sound mouse frame and a read, which
-/// gives 14h unless the mouse lock is on.
-const LIST: [u8; 12] = [3, 0xA8, 0, 8, 0x7F, 0, 5, 0x28, 0x06, 0, 0, 0];
+/// gives 14h unless the mouse lock or AT mode is on; then a byte to the keyboard
+/// that times out.
+const LIST: [u8; 18] = [
+    3, 0xA8, 0, 8, 0x7F, 0, 5, 0x28, 0x06, 0, 0, 0, 1, 0xED, 0, 7, 0, 0,
+];
 
 #[test]
-fn only_bit_0_of_the_options_starts_anything() {
+fn only_two_bits_of_the_options_start_anything() {
     let mut random = Random::new(91);
     let ordinary = state_bytes(&Controller::fresh(Settings::ORDINARY));
     for options in 0..=0xFF {
         let mut fenced = Fenced::new(&mut random);
         fenced.state_mut().start(options);
         let mut expected = ordinary;
-        expected[60] = options % 2;
+        expected[60] = options % 4;
         fenced.assert_bytes(&expected, &format!("a start with {options:02X}"));
     }
 }
 
 #[test]
-fn only_bit_0_of_the_options_changes_a_run() {
+fn only_two_bits_of_the_options_change_a_run() {
     let mut random = Random::new(92);
     for options in 0..=0xFF {
-        let mut answers = Guarded::new(&mut random, 36);
+        let mut answers = Guarded::new(&mut random, 54);
         assert_eq!(panel::run(options, &LIST, answers.inside()), 0);
-        let mut expected = [0; 36];
+        let mut expected = [0; 54];
         model::run(Settings::from_options(options), &LIST, &mut expected);
         answers.assert_begins(&expected, &format!("a run with {options:02X}"));
-        let read = if options % 2 == 0 { 0x14 } else { 0x00 };
-        assert_eq!(expected[28], read, "options {options:02X}");
+        // The check of the mouse frame, the byte read, the error of the time-out.
+        let told = [expected[18], expected[28], expected[48] & 0xE0];
+        let wanted = match options % 4 {
+            0 => [0, 0x14, 0x40],
+            1 => [0, 0x00, 0x40],
+            _ => [12, 0x00, 0x20],
+        };
+        assert_eq!(told, wanted, "options {options:02X}");
+    }
+}
+
+const IN_AT_MODE: [Settings; 2] = [AT_MODE, AT_MODE_AND_MOUSE_LOCK];
+
+/// What stands behind the body of a fresh controller with ordinary settings.
+const ORDINARY_REST: [u8; 4] = [panel::ORDINARY, 0, 0x03, 0];
+
+/// AT mode with the keyboard on, P20 and P25 high and the other latches low, and
+/// a transmit time-out whose byte has been read.
+fn timed_out(random: &mut Random, settings: Settings) -> Both {
+    let mut both = Both::started(random, settings);
+    for event in [
+        Event::command(0xD1),
+        Event::data(0x21),
+        Event::data(0xED),
+        Event::new(kind::BYTE_TIMED_OUT, 0),
+        Event::read(),
+    ] {
+        assert_eq!(both.event(random, event)[0], 0);
+    }
+    assert_eq!(both.bytes()[60..], rest_in_at_mode(settings));
+    both
+}
+
+fn rest_in_at_mode(settings: Settings) -> [u8; 4] {
+    let lock = if settings.mouse_lock {
+        panel::MOUSE_LOCK
+    } else {
+        panel::ORDINARY
+    };
+    [panel::AT_MODE | lock, 0, 0x08, 0x01]
+}
+
+/// The status and P2 as they are.
+fn lines(both: &Both) -> [u8; 2] {
+    let lines = both.model.lines();
+    [lines[3], lines[4]]
+}
+
+#[test]
+fn a_save_leaves_at_mode_out_and_a_load_ends_it() {
+    let mut random = Random::new(98);
+    for settings in IN_AT_MODE {
+        let mut both = timed_out(&mut random, settings);
+        both.look(&mut random);
+        assert_eq!(lines(&both), [0x30, 0xA1]);
+        let saved = both.save(&mut random, IMAGE_SIZE);
+        assert_eq!(both.bytes()[60..], rest_in_at_mode(settings));
+        assert_eq!(both.load(&saved), 0);
+        assert_eq!(both.bytes()[60..], ORDINARY_REST);
+        both.look(&mut random);
+        // The latch of P20 is in the body; the mouse is off.
+        assert_eq!(lines(&both), [0x10, 0x09]);
+        let answer = both.event(&mut random, Event::mouse(0x14));
+        assert_eq!(answer[0], 5);
+    }
+}
+
+#[test]
+fn a_run_from_an_image_is_in_ps2_mode() {
+    let mut random = Random::new(99);
+    let list = [Event::command(0xA9), Event::read()].map(Event::to_bytes);
+    for settings in IN_AT_MODE {
+        let both = timed_out(&mut random, settings);
+        let saved = both.save(&mut random, IMAGE_SIZE);
+        let room = Room {
+            answers: 18,
+            saved: IMAGE_SIZE,
+        };
+        let written = compare::run_image(&mut random, &saved, list.as_flattened(), room);
+        assert_eq!(written.answers[3..5], [0x19, 0x09]);
+        assert_eq!(written.answers[10..12], [0x00, 0]);
+    }
+}
+
+/// A controller in PS/2 mode that loads what one in AT mode saved goes on as a
+/// run of the image does.
+#[test]
+fn a_load_goes_on_as_a_run_of_the_image() {
+    let mut random = Random::new(100);
+    for number in 0..500 {
+        let state = images::state(&mut random, IN_AT_MODE[number % 2]);
+        let mut both = Both::of(&mut random, &state);
+        let saved = both.save(&mut random, IMAGE_SIZE);
+        let list = lists::unguided(&mut random, 60);
+        let room = Room::enough(&mut random, &list);
+        let written = compare::run_image(&mut random, &saved, &list, room);
+        assert_eq!(both.load(&saved), 0);
+        assert_eq!(both.run(&mut random, &list, list.len() * 3), 0);
+        assert_eq!(both.save(&mut random, IMAGE_SIZE), written.saved);
+        assert_eq!(both.bytes()[60..], ORDINARY_REST);
     }
 }
 
@@ -111,16 +213,36 @@ fn a_refused_load_keeps_the_mouse_lock() {
     }
 }
 
-/// Whatever settings the controller had that was there.
+#[test]
+fn a_refused_load_keeps_at_mode_its_latches_and_its_time_out() {
+    let mut random = Random::new(95);
+    for settings in IN_AT_MODE {
+        for image in refused_images(&mut random) {
+            let mut both = timed_out(&mut random, settings);
+            assert_ne!(both.load(&image), 0);
+            assert_eq!(both.bytes()[60..], rest_in_at_mode(settings));
+            assert_ne!(both.load(&image[1..]), 0);
+            assert_eq!(both.bytes()[60..], rest_in_at_mode(settings));
+            assert_eq!(both.event(&mut random, Event::mouse(0x14))[0], 12);
+        }
+    }
+}
+
+/// Whatever settings the controller had that was there, and whatever it did.
 #[test]
 fn a_new_start_has_its_own_settings() {
     let mut random = Random::new(96);
     for before in Settings::ALL {
         for after in Settings::ALL {
+            let fresh = state_bytes(&Controller::fresh(after));
             let mut fenced = Fenced::new(&mut random);
             fenced.state_mut().start(before.options());
             fenced.state_mut().start(after.options());
-            fenced.assert_bytes(&state_bytes(&Controller::fresh(after)), "a second start");
+            fenced.assert_bytes(&fresh, "a second start");
+            let drawn = state_bytes(&images::state(&mut random, before));
+            let mut fenced = Fenced::around(&mut random, drawn);
+            fenced.state_mut().start(after.options());
+            fenced.assert_bytes(&fresh, "a start over another state");
         }
     }
 }

@@ -77,7 +77,8 @@ fn pending_from(code: u8, number: u8) -> Pending {
     }
 }
 
-/// The body that describes a state, its settings apart.
+/// The body that describes a state, apart from its settings and from what only
+/// AT mode has.
 pub fn encode(state: &Controller) -> [u8; BODY_SIZE] {
     let mut body = [0; BODY_SIZE];
     body[at::OUTPUT] = state.output;
@@ -109,13 +110,13 @@ fn password(body: &[u8; BODY_SIZE]) -> Password {
 }
 
 /// Reads a body that keeps the body rules. It has no place for the settings,
-/// so they are the ordinary ones.
+/// so they are the ordinary ones, nor for what only AT mode has, which is as
+/// when fresh.
 pub(crate) fn decode(body: &[u8; BODY_SIZE]) -> Controller {
     let has = |bit: u8| body[at::FLAGS] & bit != 0;
     let mut ram = [0; 32];
     ram.copy_from_slice(&body[at::RAM..]);
     Controller {
-        settings: Settings::ORDINARY,
         output: body[at::OUTPUT],
         full: has(flag::FULL),
         source: if has(flag::MOUSE_SOURCE) {
@@ -141,5 +142,6 @@ pub(crate) fn decode(body: &[u8; BODY_SIZE]) -> Controller {
         password: password(body),
         position: usize::from(body[at::POSITION]),
         ram,
+        ..Controller::fresh(Settings::ORDINARY)
     }
 }

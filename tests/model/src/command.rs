@@ -26,10 +26,14 @@ impl Controller {
         if self.pending == Pending::Password {
             self.password = Password::EMPTY;
         }
+        self.pending = Pending::None;
+        if !self.settings.command_acts(command) {
+            return 0;
+        }
         self.pending = pending_after(command);
         self.act(command);
         match command {
-            0xF0..=0xFF => !command & 0b11,
+            0xF0..=0xFF => self.pulse(command),
             _ => 0,
         }
     }
@@ -51,7 +55,7 @@ impl Controller {
             0xC2 => self.overlay = Some(self.pins >> 4),
             // The port is read before the put raises an interrupt line.
             0xD0 => self.answer_command(self.output_port()),
-            0xE0 => self.answer_command(self.device_clocks()),
+            0xE0 => self.answer_command(self.test_inputs()),
             _ => {}
         }
     }
@@ -66,10 +70,16 @@ impl Controller {
         self.set_mode(mode::SYS);
     }
 
-    fn device_clocks(&self) -> u8 {
+    /// In AT mode the keyboard's data line and its clock, in PS/2 mode the
+    /// clocks of the keyboard and the mouse.
+    fn test_inputs(&self) -> u8 {
         let keyboard = u8::from(!self.mode(mode::KEYBOARD_OFF));
         let mouse = u8::from(!self.mode(mode::MOUSE_OFF));
-        keyboard | mouse << 1
+        if self.settings.at_mode {
+            1 | keyboard << 1
+        } else {
+            keyboard | mouse << 1
+        }
     }
 
     /// Without a password there is nothing to lock with.

@@ -52,6 +52,9 @@ pub struct Controller {
     pub full: bool,
     pub source: Device,
     pub command_flag: bool,
+    /// AT mode's transmit time-out; PS/2 mode never sets it.
+    pub transmit_timeout: bool,
+    /// TERR in PS/2 mode, the receive time-out in AT mode.
     pub timeout_error: bool,
     pub parity_error: bool,
     pub break_flag: bool,
@@ -59,6 +62,9 @@ pub struct Controller {
     pub pins: u8,
     pub latch_20: bool,
     pub latch_21: bool,
+    pub latch_22: bool,
+    pub latch_23: bool,
+    pub latch_25: bool,
     pub pending: Pending,
     pub overlay: Option<u8>,
     pub sending: Option<(Device, u8)>,
@@ -77,6 +83,7 @@ impl Controller {
             full: false,
             source: Device::Keyboard,
             command_flag: false,
+            transmit_timeout: false,
             timeout_error: false,
             parity_error: false,
             break_flag: false,
@@ -84,6 +91,9 @@ impl Controller {
             pins: 0xFF,
             latch_20: true,
             latch_21: true,
+            latch_22: true,
+            latch_23: true,
+            latch_25: false,
             pending: Pending::None,
             overlay: None,
             sending: None,
@@ -125,10 +135,5 @@ impl Controller {
         self.output = byte;
         self.full = true;
         self.source = source;
-    }
-
-    pub fn set_errors(&mut self, timeout: bool, parity: bool) {
-        self.timeout_error = timeout;
-        self.parity_error = parity;
     }
 }

@@ -12,7 +12,7 @@ impl Controller {
             Pending::Mode => self.ram[cell::MODE] = byte & !mode::UNUSED,
             Pending::Cell(number) => self.ram[usize::from(number)] = byte,
             Pending::Password => self.load_code_byte(byte),
-            Pending::OutputPort => self.set_latches(byte),
+            Pending::OutputPort => self.write_latches(byte),
             Pending::Output => self.put(byte, Device::Keyboard),
             Pending::MouseOutput => self.put(byte, Device::Mouse),
             Pending::SendToMouse => self.sending = Some((Device::Mouse, byte)),
@@ -23,11 +23,6 @@ impl Controller {
     fn send_to_keyboard(&mut self, byte: u8) {
         self.sending = Some((Device::Keyboard, byte));
         self.clear_mode(mode::KEYBOARD_OFF);
-    }
-
-    fn set_latches(&mut self, byte: u8) {
-        self.latch_20 = byte & 1 != 0;
-        self.latch_21 = byte & 2 != 0;
     }
 
     /// The load goes on while bytes are nonzero and there is room.

@@ -1,6 +1,7 @@
 //! One event: refuse it or carry it out, then answer.
 
 use crate::controller::{Controller, Device};
+use crate::errors::Error;
 use crate::lines::Outcome;
 use crate::list::ANSWER_SIZE;
 
@@ -46,13 +47,13 @@ impl Controller {
 
     fn byte_taken(&mut self) {
         self.sending = None;
-        self.set_errors(false, false);
+        self.clear_errors();
     }
 
     fn byte_timed_out(&mut self) {
         if let Some((device, _)) = self.sending.take() {
             self.put(TIMED_OUT, device);
         }
-        self.set_errors(true, false);
+        self.set_error(Error::Transmit);
     }
 }

@@ -1,4 +1,4 @@
-//! A plain model of the 8042 keyboard controller in PS/2 mode.
+//! A plain model of the 8042 keyboard controller in PS/2 mode and in AT mode.
 //!
 //! It follows the written rules and nothing else, and serves as the yardstick
 //! for the library under test.
@@ -6,11 +6,14 @@
 mod body;
 mod body_rules;
 mod command;
+mod command_set;
 mod controller;
 mod data;
+mod errors;
 mod event;
 mod frame;
 mod image;
+mod latches;
 mod lines;
 mod list;
 mod lock;

@@ -30,7 +30,7 @@ impl Controller {
             Some(nibble) => nibble << 4,
             None => {
                 bit(!self.key_turned(), 4)
-                    | bit(self.full_from(Device::Mouse), 5)
+                    | bit(self.status_bit_5(), 5)
                     | bit(self.timeout_error, 6)
                     | bit(self.parity_error, 7)
             }
@@ -38,15 +38,43 @@ impl Controller {
         low | high
     }
 
-    /// P2. The interrupt lines follow the mode as it is now, not as it was
-    /// when the byte was put.
+    /// The transmit time-out in AT mode, a mouse byte that waits in PS/2 mode.
+    fn status_bit_5(&self) -> bool {
+        if self.settings.at_mode {
+            self.transmit_timeout
+        } else {
+            self.full_from(Device::Mouse)
+        }
+    }
+
+    /// P2. The interrupt lines follow the command byte as it is now, not as it
+    /// was when the byte was put.
     pub fn output_port(&self) -> u8 {
+        let of_mode = if self.settings.at_mode {
+            self.port_in_at_mode()
+        } else {
+            self.port_in_ps2_mode()
+        };
         bit(self.latch_20, 0)
             | bit(self.latch_21, 1)
-            | bit(self.mode(mode::MOUSE_OFF), 3)
+            | bit(self.mode(mode::KEYBOARD_OFF), 6)
+            | of_mode
+    }
+
+    /// The lines that belong to the mouse here, and the keyboard's interrupt.
+    fn port_in_ps2_mode(&self) -> u8 {
+        bit(self.mode(mode::MOUSE_OFF), 3)
             | bit(self.full_from(Device::Keyboard) && self.mode(mode::EKI), 4)
             | bit(self.full_from(Device::Mouse) && self.mode(mode::EMI), 5)
-            | bit(self.mode(mode::KEYBOARD_OFF), 6)
+    }
+
+    /// The interrupt line does not look at the source, and P27 is high.
+    fn port_in_at_mode(&self) -> u8 {
+        bit(self.latch_22, 2)
+            | bit(self.latch_23, 3)
+            | bit(self.full && self.mode(mode::EKI), 4)
+            | bit(self.latch_25, 5)
+            | bit(true, 7)
     }
 
     /// The byte on its way to a device, 0 with nobody.

@@ -1,6 +1,7 @@
 //! Frames that arrive from the keyboard and the mouse.
 
 use crate::controller::{Controller, Device, mode};
+use crate::errors::Error;
 use crate::frame::{Verdict, judge};
 use crate::translation::translate;
 
@@ -17,14 +18,17 @@ impl Controller {
     /// Notes the errors of a frame and tells what it brings. Noise brings
     /// nothing and leaves the errors.
     fn check_frame(&mut self, frame: u16) -> Option<Arrival> {
-        let (arrival, timeout, parity) = match judge(frame) {
+        let error = match judge(frame) {
             Verdict::Noise => return None,
-            Verdict::Sound(byte) => (Arrival::Byte(byte), false, false),
-            Verdict::Broken => (Arrival::Damage, true, false),
-            Verdict::WrongParity => (Arrival::Damage, false, true),
+            Verdict::Sound(byte) => {
+                self.clear_errors();
+                return Some(Arrival::Byte(byte));
+            }
+            Verdict::Broken => Error::Receive,
+            Verdict::WrongParity => Error::Parity,
         };
-        self.set_errors(timeout, parity);
-        Some(arrival)
+        self.set_error(error);
+        Some(Arrival::Damage)
     }
 
     pub(crate) fn keyboard_frame(&mut self, frame: u16) {

@@ -24,6 +24,8 @@ impl Controller {
         match kind {
             1 | 3 => self.write_refusal(),
             4 => self.frame_refusal(mode::KEYBOARD_OFF),
+            // AT mode has no mouse, so nothing else about its frame is asked.
+            5 if self.settings.at_mode => 12,
             5 => self.frame_refusal(mode::MOUSE_OFF),
             6 | 7 if self.sending.is_none() => 6,
             _ => 0,

@@ -12,7 +12,7 @@ const NOISE: u16 = 0x629;
 const TURNED: u8 = 0x7F;
 
 fn with_mouse_lock() -> Host {
-    Host::ready_under(Settings { mouse_lock: true })
+    Host::ready_under(Settings::MOUSE_LOCK)
 }
 
 /// Both devices on, the mouse lock on and the key switch turned.

@@ -5,21 +5,20 @@ mod host;
 use host::Host;
 use model::{Controller, Settings, encode, load, run, save, state_bytes};
 
-const MOUSE_LOCK: Settings = Settings { mouse_lock: true };
-
 #[test]
-fn only_bit_0_of_the_options_counts() {
+fn only_two_bits_of_the_options_count() {
     for options in 0..=0xFF {
         let settings = Settings::from_options(options);
         assert_eq!(settings.mouse_lock, options % 2 == 1, "{options:02X}");
-        assert_eq!(settings.options(), options % 2, "{options:02X}");
+        assert_eq!(settings.at_mode, options / 2 % 2 == 1, "{options:02X}");
+        assert_eq!(settings.options(), options % 4, "{options:02X}");
     }
 }
 
 #[test]
 fn every_choice_is_listed_once() {
     let listed = Settings::ALL.map(Settings::options);
-    assert_eq!(listed, [0, 1]);
+    assert_eq!(listed, [0, 1, 2, 3]);
     assert_eq!(Settings::ALL[0], Settings::ORDINARY);
     for settings in Settings::ALL {
         assert_eq!(Settings::from_options(settings.options()), settings);
@@ -27,23 +26,42 @@ fn every_choice_is_listed_once() {
 }
 
 #[test]
-fn state_bytes_are_the_body_and_the_options() {
+fn state_bytes_are_the_body_the_options_and_the_rest() {
     for settings in Settings::ALL {
         let fresh = Controller::fresh(settings);
         let bytes = state_bytes(&fresh);
-        assert_eq!(bytes.len(), 61);
+        assert_eq!(bytes.len(), 64);
         assert_eq!(bytes[..60], encode(&fresh));
-        assert_eq!(bytes[60], u8::from(settings.mouse_lock));
+        assert_eq!(bytes[60..], [settings.options(), 0, 0x03, 0]);
     }
+}
+
+/// What only AT mode has stands behind the options and nowhere else.
+#[test]
+fn each_latch_and_the_time_out_has_its_bit() {
+    let fresh = Controller::fresh(Settings::AT_MODE);
+    let rest = |change: fn(&mut Controller)| {
+        let mut state = fresh.clone();
+        change(&mut state);
+        let bytes = state_bytes(&state);
+        assert_eq!(bytes[..62], state_bytes(&fresh)[..62]);
+        [bytes[62], bytes[63]]
+    };
+    assert_eq!(rest(|state| state.latch_22 = false), [0x02, 0]);
+    assert_eq!(rest(|state| state.latch_23 = false), [0x01, 0]);
+    assert_eq!(rest(|state| state.latch_25 = true), [0x0B, 0]);
+    assert_eq!(rest(|state| state.transmit_timeout = true), [0x03, 0x01]);
 }
 
 #[test]
 fn fresh_differs_in_the_settings_alone() {
-    let mut fresh = Controller::fresh(MOUSE_LOCK);
-    assert_ne!(fresh, Controller::fresh(Settings::ORDINARY));
-    assert_eq!(fresh.lines(), Host::fresh().state.lines());
-    fresh.settings = Settings::ORDINARY;
-    assert_eq!(fresh, Controller::fresh(Settings::ORDINARY));
+    for settings in Settings::ALL {
+        let mut fresh = Controller::fresh(settings);
+        fresh.settings = Settings::ORDINARY;
+        assert_eq!(fresh, Controller::fresh(Settings::ORDINARY));
+    }
+    let lines = |settings| Host::started(settings).state.lines();
+    assert_eq!(lines(Settings::MOUSE_LOCK), lines(Settings::ORDINARY));
 }
 
 /// Each event in a state where most of them act.
@@ -62,7 +80,7 @@ fn no_event_changes_the_settings() {
 
 #[test]
 fn an_image_has_no_place_for_the_settings() {
-    let mut host = Host::ready_under(MOUSE_LOCK);
+    let mut host = Host::ready_under(Settings::MOUSE_LOCK);
     host.pins(0x7F);
     let saved = save(&host.state);
     let loaded = load(&saved).expect("an image");
@@ -78,6 +96,8 @@ fn a_list_runs_under_the_settings_given() {
     let mut answers = [0; 27];
     assert_eq!(run(Settings::ORDINARY, &list, &mut answers), 0);
     assert_eq!(answers[18..], [0, 0, 0, 0x29, 0x43, 0, 0, 0, 0]);
-    assert_eq!(run(MOUSE_LOCK, &list, &mut answers), 0);
+    assert_eq!(run(Settings::MOUSE_LOCK, &list, &mut answers), 0);
     assert_eq!(answers[18..], [0, 0, 0, 0x08, 0x43, 0, 0, 0, 0]);
+    assert_eq!(run(Settings::AT_MODE, &list, &mut answers), 0);
+    assert_eq!(answers[18..], [12, 0, 0, 0x08, 0xCF, 0, 0, 0, 0]);
 }

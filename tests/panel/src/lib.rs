@@ -5,9 +5,10 @@ mod state;
 
 pub use state::{ANSWER_SIZE, Answer, STATE_SIZE, State};
 
-/// Options of a start: none of them, and the mouse lock.
+/// Options of a start: none of them, the mouse lock, and AT mode.
 pub const ORDINARY: u8 = 0;
-pub const MOUSE_LOCK: u8 = 1;
+pub const MOUSE_LOCK: u8 = 0x01;
+pub const AT_MODE: u8 = 0x02;
 
 /// What `judge` answers for a frame that is not sound.
 pub const WRONG_PARITY: u16 = 256;

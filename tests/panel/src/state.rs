@@ -3,13 +3,13 @@
 use crate::ffi;
 use std::cell::UnsafeCell;
 
-pub const STATE_SIZE: usize = 61;
+pub const STATE_SIZE: usize = 64;
 pub const ANSWER_SIZE: usize = 9;
 
 pub type Answer = [u8; ANSWER_SIZE];
 
-/// The bytes that the library changes in place: an image's body, then the
-/// options.
+/// The bytes that the library changes in place: an image's body, the options,
+/// and what only AT mode changes.
 ///
 /// They stand in a cell, so that a call which writes where it is only to read
 /// is seen by whoever looks at the bytes afterwards.

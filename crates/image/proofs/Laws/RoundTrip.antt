@@ -9,9 +9,10 @@ use lib.ListN.{length, getD, take, drop, length-take, length-drop}
 use lib.Seq.{take-append-seam, drop-append-seam, getD-drop}
 use lib.Dec.{eqb}
 use borrow.Author.Tests.{ne-eqb, eqb-true, eqb-false, not-true}
-use Rattle.machine.specs.Settings.{ordinary}
+use Rattle.translation.specs.Bits.{has}
+use Rattle.machine.specs.Settings.{Settings, ordinary}
 use Rattle.machine.specs.State.{Public, Machine, fresh}
-use Rattle.machine.specs.Lines.{nibble}
+use Rattle.machine.specs.Lines.{atMode, nibble}
 use Rattle.machine.specs.Kept.{Kept}
 use Rattle.machine.specs.View.{stateLength, body, beyond, stateOf, at, view, IsState}
 use Rattle.machine.proofs.Laws.Lists.{Below, below-take, below-drop, below-append, length-part}
@@ -19,7 +20,8 @@ use Rattle.machine.proofs.Laws.Bits.{flags-full, flags-mouse, flags-locked, fla
 use Rattle.machine.proofs.Laws.Code.{code-long, code-byte}
 use Rattle.machine.proofs.Laws.View.{ram-of}
 use Rattle.machine.proofs.Laws.Settings.{fresh-settings}
-use Rattle.machine.proofs.Laws.Body.{beyond-same, beyond-below, length-extended, take-extended, options-fit}
+use Rattle.machine.proofs.Laws.Kept.{fresh-kept}
+use Rattle.machine.proofs.Laws.Body.{beyond-same, beyond-below, tidied, length-extended, take-extended, byte-extended, tidied-extended}
 use Rattle.machine.proofs.Laws.Body.{length-body, code-part, ram-part, view-state, Tidy, tidy-state, body-front}
 use Rattle.image.specs.Layout.{bodyLength, imageLength, sealed, image}
 use Rattle.image.specs.Find.{lastBytes, ends, found}
@@ -33,7 +35,7 @@ use Rattle.image.proofs.Laws.Trailer.{lastBytes-append, bodyOf-sealed, 
 use Rattle.image.proofs.Laws.Load.{length-found, loaded-accepted, loadRefusal-kept, accepted}
 
 -- ---- the machine of a state that keeps the rules
-module _ (s : List ℕ) (long : length s ≡ stateLength) (r : Rules s) (options : at s 60 < 2) where
+module _ (s : List ℕ) (long : length s ≡ stateLength) (r : Rules s) (beyond : (k : ℕ) → tidied k (at s (60 + k)) ≡ at s (60 + k)) where
   abbrev code : List ℕ
   code = take 16 (drop 12 s)
 
@@ -53,18 +55,21 @@ module _ (s : List ℕ) (long : length s ≡ stateLength) (r : Rules s) (options
             ∙ ap (λ (j : ℕ). getD code j 0) (sym past)
             ∙ sym (getD-drop (at s 10) code (k - at s 10) 0)
             ∙ eqb-true _ 0 (every-at isZero (drop (at s 10) code) (r .after) (k - at s 10) shown);
-        options = options;
+        beyond = beyond;
       }
 
   count-shown : length (take (at s 10) code) ≡ at s 10
   count-shown = length-take (at s 10) code ∙ omega (arith, code-long s long, r .count)
 
-  view-kept : Below 256 s → Kept (view s)
-  view-kept bytes =
+  -- what AT mode adds is fresh in it
+  view-kept : Below 256 s → at s 62 ≡ 3 → at s 63 ≡ 0 → Kept (view s)
+  view-kept bytes latches ttim =
       record {
         output = bytes 0;
         source = r .source;
         pins = bytes 2;
+        latches = λ _. (ap (λ (x : ℕ). has x 0) latches, ap (λ (x : ℕ). has x 1) latches, ap (λ (x : ℕ). has x 3) latches);
+        ttim = λ _. ap (λ (x : ℕ). has x 0) ttim;
         pending = r .pending;
         cell = r .cell;
         noCell = r .noCell;
@@ -138,7 +143,9 @@ module _ (m : Machine) (k : Kept m) where
   resumed-body : m .plain .settings ≡ ordinary → view (stateFrom (body m)) ≡ m
   unfolding stateOf
   resumed-body plain =
-      ap (λ (r : List ℕ). view (body m ++ r)) (beyond-same (fresh ordinary .plain) (m .plain) (fresh-settings ordinary ∙ sym plain))
+      let started = fresh-settings ordinary in
+      ap (λ (r : List ℕ). view (body m ++ r))
+      (beyond-same (fresh ordinary) m (fresh-kept ordinary) k (started ∙ sym plain) (ap (λ (x : Settings). x .atMode) started))
       ∙ view-state m (k .code) (k .ram)
 
   -- ---- its image behind other bytes
@@ -181,15 +188,23 @@ module _ (bytes : List ℕ) (z : loadRefusal bytes ≡ 0) where
   made-long : length made ≡ stateLength
   made-long = length-extended (found bytes) found-long behind
 
-  made-options : at made 60 < 2
-  made-options = options-fit (found bytes) found-long behind
+  made-beyond : (k : ℕ) → tidied k (at made (60 + k)) ≡ at made (60 + k)
+  made-beyond = tidied-extended (found bytes) found-long behind
+
+  made-latches : at made 62 ≡ 3
+  unfolding fresh nibble
+  made-latches = byte-extended (found bytes) found-long behind 2
+
+  made-ttim : at made 63 ≡ 0
+  unfolding fresh nibble
+  made-ttim = byte-extended (found bytes) found-long behind 3
 
   made-rules : Rules made
   made-rules = bodyKept-rules made (bodyKept-front (found bytes) (beyond behind) found-long ∙ accepted bytes z .1)
 
   -- the state that it makes is that of its machine
   pub found-isState : IsState made
-  found-isState = tidy-state made (rules-tidy made made-long made-rules made-options)
+  found-isState = tidy-state made (rules-tidy made made-long made-rules made-beyond)
 
   found-body-of : found bytes ≡ body (resumed bytes)
   found-body-of = sym (take-extended (found bytes) found-long behind) ∙ body-front made made-long found-isState
@@ -209,16 +224,16 @@ module _ (bytes : List ℕ) (z : loadRefusal bytes ≡ 0) where
         accepted = z;
         body = found-body-of;
         machine = λ before. loaded-accepted before bytes z;
-        kept = view-kept made made-long made-rules made-options (made-below bound);
+        kept = view-kept made made-long made-rules made-beyond (made-below bound) made-latches made-ttim;
         again =
             ap (sealed 1) (sym found-body-of ∙ found-body bytes ended)
             ∙ sym (lastBytes-sealed 1 bodyLength bytes (ends-sealed 1 bodyLength bytes ended) bound);
       }
 
--- ---- one machine for a body and the settings
-pub body-injective : (m n : Machine) → Kept m → Kept n → m .plain .settings ≡ n .plain .settings → body m ≡ body n → m ≡ n
+-- ---- one machine for a body and the settings, in PS/2 mode
+pub body-injective : (m n : Machine) → Kept m → Kept n → m .plain .settings ≡ n .plain .settings → atMode (m .plain) ≡ false → body m ≡ body n → m ≡ n
 unfolding stateOf
-body-injective m n k l same e =
+body-injective m n k l same ps2 e =
     sym (view-state m (k .code) (k .ram))
-    ∙ ap₂ (λ (b r : List ℕ). view (b ++ r)) e (beyond-same (m .plain) (n .plain) same)
+    ∙ ap₂ (λ (b r : List ℕ). view (b ++ r)) e (beyond-same m n k l same ps2)
     ∙ view-state n (l .code) (l .ram)

@@ -14,7 +14,7 @@ use Rattle.translation.proofs.Tests.{split}
 use Rattle.machine.specs.State.{Public, Machine, withLocked, lift}
 use Rattle.machine.specs.Lines.{put, putCell, inhibited, translates}
 use Rattle.machine.specs.DataPort.{settled, dataWritten, plainData, dropped, appended, codeFull, loadByte, writeData}
-use Rattle.machine.specs.Commands.{commandWritten, loadCut, plainCommand, hasCode, codeAsked, closed, lockedUp, acts, writeCommand}
+use Rattle.machine.specs.Commands.{understood, commandWritten, loadCut, plainCommand, hasCode, codeAsked, closed, lockedUp, acts, writeCommand}
 use Rattle.machine.specs.Frames.{errorsSet, positioned, keyError, breaking, damagedKey, ignored, matches, completes, unlocked, advanced, try}
 use Rattle.machine.specs.Frames.{keyed, keyedByte, translated, soundKey, keyboardFrame, mouseFrame, taken, timedOut, pinned}
 use Rattle.machine.specs.Events.{Event, value, limit, refusal, emptied, accept, step, pulse, reply, answer}
@@ -93,7 +93,10 @@ acts-alike c h =
 
 writeCommand-alike : {m n : Machine} (c : ℕ) → Alike m n → Alike (writeCommand c m) (writeCommand c n)
 unfolding writeCommand
-writeCommand-alike c h = acts-alike c (lift-alike (commandWritten c) (loadCut-alike h))
+writeCommand-alike {m} {n} c h =
+    let known = understood (m .plain .settings) c in
+    let same : understood (n .plain .settings) c ≡ known = ap (λ (p : Public). understood (p .settings) c) (sym (h .plain)) in
+    rw same (acts-alike known (lift-alike (commandWritten known) (loadCut-alike h)))
 
 -- Kind 4
 
@@ -219,7 +222,7 @@ accept-alike {m} {n} e h =
 pub record EventsAlike (e f : Event) : Type 0 where
   pub kind : e .kind ≡ f .kind
   pub high : ltb (limit (e .kind)) (value e) ≡ ltb (limit (f .kind)) (value f)
-  pub pulse : pulse e ≡ pulse f
+  pub pulse : (p : Public) → pulse p e ≡ pulse p f
 
 refusal-alike : {e f : Event} (p : Public) → EventsAlike e f → refusal p e ≡ refusal p f
 unfolding refusal
@@ -227,7 +230,7 @@ refusal-alike p s = rw (s .high, s .kind)
 
 reply-alike : {e f : Event} (p q : Public) → EventsAlike e f → reply p e q ≡ reply p f q
 unfolding reply
-reply-alike p q s = rw (refusal-alike p s, s .pulse, s .kind)
+reply-alike p q s = rw (refusal-alike p s, s .pulse p, s .kind)
 
 -- an event that is refused changes neither machine
 cond-still : {m n x y : Machine} (t : Bool) → Alike m n → StillAlike m n x y → StillAlike m n (cond t x m) (cond t y n)

@@ -6,7 +6,7 @@ use mathlib.Core.Bool.{Bool, true, false}
 use native.Mathlib.Omega.{arith}
 use lib.Dec.{eqb}
 use borrow.Author.Tests.{eqb-true, eqb-false}
-use Rattle.translation.specs.Bits.{has}
+use Rattle.translation.specs.Bits.{bit, has}
 use Rattle.machine.specs.State.{Public}
 use Rattle.machine.specs.Lines.{weight, nibble}
 use Rattle.machine.proofs.Laws.Bounds.{weight-le}
@@ -136,6 +136,9 @@ flags-byte x h =
 pub latches-byte : (x : ℕ) → x < 4 → nibble (has x 0) (has x 1) false false ≡ x
 latches-byte x h = omega (arith, nibble-weights (has x 0) (has x 1) false false, weight-has x 0, weight-has x 1)
 
+pub latches-below : (a b : Bool) → nibble a b false false < 4
+latches-below a b = omega (arith, nibble-weights a b false false, weight-le 1 a, weight-le 1 b)
+
 -- ---- overlay present
 pub overlay-below : (b : Bool) → nibble b false false false ≤ 1
 overlay-below b = omega (arith, nibble-weights b false false false, weight-le 1 b)
@@ -143,15 +146,54 @@ overlay-below b = omega (arith, nibble-weights b false false false, weight-le 1 
 pub overlay-byte : (x : ℕ) → x ≤ 1 → nibble (eqb x 1) false false false ≡ x
 overlay-byte x h = omega (arith, nibble-weights (eqb x 1) false false false, weight-test x (omega arith))
 
--- ---- options
-pub options-byte : (x : ℕ) → x < 2 → nibble (has x 0) false false false ≡ x
-options-byte x h = omega (arith, nibble-weights (has x 0) false false false, weight-has x 0)
+-- ---- the lines of a nibble
+module _ (a b c d : Bool) where
+  ones : (weight 1 a ≤ 1) × (weight 1 b ≤ 1) × (weight 1 c ≤ 1) × (weight 1 d ≤ 1)
+  ones = (weight-le 1 a, weight-le 1 b, weight-le 1 c, weight-le 1 d)
 
-pub latches-0 : (a b : Bool) → has (nibble a b false false) 0 ≡ a
-latches-0 a b = has-line (nibble a b false false) 0 a (omega (arith, nibble-weights a b false false, weight-le 1 a))
+  pub nibble-0 : has (nibble a b c d) 0 ≡ a
+  nibble-0 = has-line (nibble a b c d) 0 a (omega (arith, nibble-weights a b c d, ones))
 
-pub latches-1 : (a b : Bool) → has (nibble a b false false) 1 ≡ b
-latches-1 a b = has-line (nibble a b false false) 1 b (omega (arith, nibble-weights a b false false, weight-le 1 a, weight-le 1 b))
+  pub nibble-1 : has (nibble a b c d) 1 ≡ b
+  nibble-1 = has-line (nibble a b c d) 1 b (omega (arith, nibble-weights a b c d, ones))
 
-pub latches-below : (a b : Bool) → nibble a b false false < 4
-latches-below a b = omega (arith, nibble-weights a b false false, weight-le 1 a, weight-le 1 b)
+  pub nibble-3 : has (nibble a b c d) 3 ≡ d
+  nibble-3 = has-line (nibble a b c d) 3 d (omega (arith, nibble-weights a b c d, ones))
+
+-- ---- highLatches: bits 2, 3 and 5 of v, as D1h stores them
+module _ (a b : ℕ) (two : a < 4) (one : b < 2) where
+  spread-0 : (a + b * 8) / 1 % 2 ≡ a % 2
+  spread-0 = omega arith
+
+  spread-1 : (a + b * 8) / 2 % 2 ≡ a / 2
+  spread-1 = omega arith
+
+  spread-3 : (a + b * 8) / 8 % 2 ≡ b
+  spread-3 = omega arith
+
+  spread-byte : let x = a + b * 8 in nibble (has x 0) (has x 1) false (has x 3) ≡ x
+  spread-byte =
+      let x = a + b * 8 in
+      omega (
+        arith,
+        nibble-weights (has x 0) (has x 1) false (has x 3),
+        weight-has x 0 ∙ spread-0,
+        weight-has x 1 ∙ spread-1,
+        weight-has x 3 ∙ spread-3,
+      )
+
+module _ (v : ℕ) where
+  abbrev pub spread : ℕ
+  spread = v / 4 % 4 + v / 32 % 2 * 8
+
+  pub highLatches-byte : nibble (has spread 0) (has spread 1) false (has spread 3) ≡ spread
+  highLatches-byte = spread-byte (v / 4 % 4) (v / 32 % 2) (omega arith) (omega arith)
+
+  pub highLatches-0 : bit spread 0 ≡ bit v 2
+  highLatches-0 = spread-0 (v / 4 % 4) (v / 32 % 2) (omega arith) (omega arith) ∙ omega arith
+
+  pub highLatches-1 : bit spread 1 ≡ bit v 3
+  highLatches-1 = spread-1 (v / 4 % 4) (v / 32 % 2) (omega arith) (omega arith) ∙ omega arith
+
+  pub highLatches-3 : bit spread 3 ≡ bit v 5
+  highLatches-3 = spread-3 (v / 4 % 4) (v / 32 % 2) (omega arith) (omega arith)

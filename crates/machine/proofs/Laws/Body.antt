@@ -1,20 +1,22 @@
 -- The bytes of a machine and the machine of bytes: each undoes the other where what stands for nothing is 0. Assumes nothing.
 use mathlib.Core.Path.{_≡_, refl, ap, ap₂, sym, subst, _∙_}
-use mathlib.Core.Bool.{false}
+use mathlib.Core.Bool.{Bool, true, false}
 use mathlib.Core.List.{List, [], _∷_, _++_, append-assoc}
 use Prim.Native.Nat.{ℕ, zero, suc, _+_, _-_, _≤_, _<_}
 use native.Mathlib.Omega.{arith}
 use lib.ListN.{length, getD, take, drop, set, replicate, length-append, length-replicate, length-take, length-drop, take-append-drop}
 use lib.Seq.{take-at, drop-at, take-all, take-append-seam, drop-append-seam, take-add, drop-cons, getD-take, getD-drop}
+use Rattle.translation.specs.Bits.{has}
 use Rattle.machine.specs.Settings.{Settings, settingsOf}
 use Rattle.machine.specs.State.{Public, Machine, fresh}
-use Rattle.machine.specs.Lines.{nibble}
-use Rattle.machine.specs.View.{stateLength, head, padded, body, optionsOf, beyond, stateOf, at, view, IsState}
-use Rattle.machine.proofs.Laws.Bounds.{getD-zeros}
+use Rattle.machine.specs.Lines.{atMode, nibble}
+use Rattle.machine.specs.Kept.{Kept}
+use Rattle.machine.specs.View.{stateLength, head, padded, body, optionsOf, highLatches, beyond, stateOf, at, view, IsState}
+use Rattle.machine.proofs.Laws.Bounds.{getD-zeros, nibble-below}
 use Rattle.machine.proofs.Laws.Lists.{listed, take-listed, length-part, Below}
 use Rattle.machine.proofs.Laws.Bits.{flags-full, flags-mouse, flags-command, flags-terr, flags-perr, flags-breaks, flags-locked}
-use Rattle.machine.proofs.Laws.Bits.{flags-below, flags-byte, latches-0, latches-1, latches-below, latches-byte}
-use Rattle.machine.proofs.Laws.Bits.{overlay-below, overlay-byte, eqb-nibble, options-byte}
+use Rattle.machine.proofs.Laws.Bits.{flags-below, flags-byte, nibble-0, nibble-1, nibble-3, latches-below, latches-byte}
+use Rattle.machine.proofs.Laws.Bits.{overlay-below, overlay-byte, eqb-nibble}
 use Rattle.machine.proofs.Laws.Code.{code-long}
 
 -- ---- padded
@@ -27,18 +29,47 @@ zeros (x ∷ l) each = ap₂ _∷_ (each zero (omega arith)) (zeros l (λ k h. e
 
 -- ---- optionsOf
 settings-options : (x : Settings) → settingsOf (optionsOf x) ≡ x
-settings-options x = λ i. record { mouseLock = latches-0 (x .mouseLock) false i }
+settings-options x = λ i. record { mouseLock = nibble-0 (x .mouseLock) (x .atMode) false false i; atMode = nibble-1 (x .mouseLock) (x .atMode) false false i }
 
 -- ---- beyond
-pub beyond-same : (p q : Public) → p .settings ≡ q .settings → beyond p ≡ beyond q
-beyond-same p q same = ap (λ (x : Settings). optionsOf x ∷ []) same
+-- in PS/2 mode it goes by the settings alone
+beyond-ps2 : (m : Machine) → Kept m → atMode (m .plain) ≡ false → beyond (m .plain) ≡ optionsOf (m .plain .settings) ∷ 0 ∷ 3 ∷ 0 ∷ []
+unfolding nibble
+beyond-ps2 m k ps2 =
+    let (p22, p23, p25) = k .latches ps2 in
+    λ i.
+    optionsOf (m .plain .settings) ∷ 0 ∷ nibble (p22 i) (p23 i) false (p25 i) ∷ nibble (k .ttim ps2 i) false false false ∷ []
 
-options-below : (x : Settings) → optionsOf x < 2
-options-below x = omega (arith, overlay-below (x .mouseLock))
+pub beyond-same : (m n : Machine) → Kept m → Kept n → m .plain .settings ≡ n .plain .settings → atMode (m .plain) ≡ false →
+    beyond (m .plain) ≡ beyond (n .plain)
+beyond-same m n k l same ps2 =
+    beyond-ps2 m k ps2 ∙ ap (λ (x : Settings). optionsOf x ∷ 0 ∷ 3 ∷ 0 ∷ []) same
+    ∙ sym (beyond-ps2 n l (sym (ap (λ (x : Settings). x .atMode) same) ∙ ps2))
 
 pub beyond-below : (p : Public) → Below 256 (beyond p)
-beyond-below p zero = omega (arith, options-below (p .settings))
-beyond-below p (suc k) = omega arith
+beyond-below p zero = omega (arith, nibble-below (p .settings .mouseLock) (p .settings .atMode) false false)
+beyond-below p (suc zero) = omega arith
+beyond-below p (suc (suc zero)) = omega (arith, nibble-below (p .ports .p22) (p .ports .p23) false (p .ports .p25))
+beyond-below p (suc (suc (suc zero))) = omega (arith, nibble-below (p .errors .ttim) false false false)
+beyond-below p (suc (suc (suc (suc k)))) = omega arith
+
+-- byte 60 + k with what stands for nothing in it 0
+abbrev pub tidied : ℕ → ℕ → ℕ
+tidied zero x = optionsOf (settingsOf x)
+tidied (suc zero) x = 0
+tidied (suc (suc zero)) x = nibble (has x 0) (has x 1) false (has x 3)
+tidied (suc (suc (suc zero))) x = nibble (has x 0) false false false
+tidied (suc (suc (suc (suc k)))) x = x
+
+tidied-beyond : (p : Public) (k : ℕ) → tidied k (getD (beyond p) k 0) ≡ getD (beyond p) k 0
+tidied-beyond p zero = ap optionsOf (settings-options (p .settings))
+tidied-beyond p (suc zero) = refl
+tidied-beyond p (suc (suc zero)) =
+    let q = p .ports in
+    λ i.
+    nibble (nibble-0 (q .p22) (q .p23) false (q .p25) i) (nibble-1 (q .p22) (q .p23) false (q .p25) i) false (nibble-3 (q .p22) (q .p23) false (q .p25) i)
+tidied-beyond p (suc (suc (suc zero))) = ap (λ (b : Bool). nibble b false false false) (nibble-0 (p .errors .ttim) false false false)
+tidied-beyond p (suc (suc (suc (suc k)))) = refl
 
 -- a body with it behind
 module _ (b : List ℕ) (long : length b ≡ 60) (p : Public) where
@@ -51,11 +82,11 @@ module _ (b : List ℕ) (long : length b ≡ 60) (p : Public) where
   drop-extended : drop 60 (b ++ beyond p) ≡ beyond p
   drop-extended = drop-at b (beyond p) 60 long
 
-  options-extended : at (b ++ beyond p) 60 ≡ optionsOf (p .settings)
-  options-extended = sym (getD-drop 60 (b ++ beyond p) 0 0) ∙ ap (λ (l : List ℕ). getD l 0 0) drop-extended
+  pub byte-extended : (k : ℕ) → at (b ++ beyond p) (60 + k) ≡ getD (beyond p) k 0
+  byte-extended k = sym (getD-drop 60 (b ++ beyond p) k 0) ∙ ap (λ (l : List ℕ). getD l k 0) drop-extended
 
-  pub options-fit : at (b ++ beyond p) 60 < 2
-  options-fit = omega (arith, options-extended, options-below (p .settings))
+  pub tidied-extended : (k : ℕ) → tidied k (at (b ++ beyond p) (60 + k)) ≡ at (b ++ beyond p) (60 + k)
+  tidied-extended k = ap (tidied k) (byte-extended k) ∙ tidied-beyond p k ∙ sym (byte-extended k)
 
 -- ---- the parts of a state
 module _ (m : Machine) (short : length (m .secret .code) ≤ 16) where
@@ -106,14 +137,27 @@ module _ (m : Machine) (short : length (m .secret .code) ≤ 16) where
         let h = p .host in
         let code : take (length (m .secret .code)) (take 16 (drop 12 (stateOf m))) ≡ m .secret .code =
         ap (take (length (m .secret .code))) code-part ∙ take-append-seam (m .secret .code) _ in
-        let settings : settingsOf (at (stateOf m) 60) ≡ p .settings =
-        ap settingsOf (options-extended (body m) length-body p) ∙ settings-options (p .settings) in
+        let behind : (k : ℕ) → at (stateOf m) (60 + k) ≡ getD (beyond p) k 0 = byte-extended (body m) length-body p in
+        let settings : settingsOf (at (stateOf m) 60) ≡ p .settings = ap settingsOf (behind 0) ∙ settings-options (p .settings) in
+        let q = p .ports in
+        let latch : (k : ℕ) → has (at (stateOf m) 62) k ≡ has (highLatches p) k = λ k. ap (λ (x : ℕ). has x k) (behind 2) in
+        let p22 : has (at (stateOf m) 62) 0 ≡ q .p22 = latch 0 ∙ nibble-0 (q .p22) (q .p23) false (q .p25) in
+        let p23 : has (at (stateOf m) 62) 1 ≡ q .p23 = latch 1 ∙ nibble-1 (q .p22) (q .p23) false (q .p25) in
+        let p25 : has (at (stateOf m) 62) 3 ≡ q .p25 = latch 3 ∙ nibble-3 (q .p22) (q .p23) false (q .p25) in
+        let ttim : has (at (stateOf m) 63) 0 ≡ p .errors .ttim = ap (λ (x : ℕ). has x 0) (behind 3) ∙ nibble-0 (p .errors .ttim) false false false in
         λ i. record {
           plain = record {
             output = record { byte = o .byte; full = flags-full p i; mouse = flags-mouse p i };
-            errors = record { terr = flags-terr p i; perr = flags-perr p i };
+            errors = record { terr = flags-terr p i; perr = flags-perr p i; ttim = ttim i };
             host = record { command = flags-command p i; pending = h .pending; cell = h .cell; overlay = eqb-nibble (h .overlay) i; nibble = h .nibble };
-            ports = record { pins = p .ports .pins; p20 = latches-0 (p .ports .p20) (p .ports .p21) i; p21 = latches-1 (p .ports .p20) (p .ports .p21) i };
+            ports = record {
+              pins = q .pins;
+              p20 = nibble-0 (q .p20) (q .p21) false false i;
+              p21 = nibble-1 (q .p20) (q .p21) false false i;
+              p22 = p22 i;
+              p23 = p23 i;
+              p25 = p25 i;
+            };
             sending = p .sending;
             breaks = flags-breaks p i;
             locked = flags-locked p i;
@@ -126,7 +170,7 @@ module _ (m : Machine) (short : length (m .secret .code) ≤ 16) where
 -- ---- fresh
 -- the bytes that a start stores
 abbrev pub started : ℕ → List ℕ
-started options = set (set (set (set (replicate 61 0) 2 0xFF) 3 3) 28 0x70) 60 options
+started options = set (set (set (set (set (replicate 64 0) 2 0xFF) 3 3) 28 0x70) 60 options) 62 3
 
 started-state : (x : Settings) → started (optionsOf x) ≡ stateOf (fresh x)
 unfolding stateOf body fresh nibble
@@ -147,7 +191,7 @@ pub record Tidy (s : List ℕ) : Type 0 where
   pub overlay : at s 6 < 2
   pub size : at s 10 < 17
   pub rest : (k : ℕ) → at s 10 ≤ k → k < 16 → at s (12 + k) ≡ 0
-  pub options : at s 60 < 2
+  pub beyond : (k : ℕ) → tidied k (at s (60 + k)) ≡ at s (60 + k)
 
 -- such bytes are those of their machine
 module _ (s : List ℕ) (t : Tidy s) where
@@ -205,14 +249,17 @@ module _ (s : List ℕ) (t : Tidy s) where
       ∙ ap (λ (x : List ℕ). x ++ take 32 (drop 28 s)) (sym (take-add 12 16 s))
       ∙ sym (take-add 28 32 s)
 
+  beyond-view : beyond (view s .plain) ≡ listed 60 4 s
+  beyond-view = λ i. t .beyond 0 i ∷ t .beyond 1 i ∷ t .beyond 2 i ∷ t .beyond 3 i ∷ []
+
   pub tidy-state : IsState s
   unfolding stateOf
   tidy-state =
       sym
-      (ap₂ (λ (x : List ℕ) (y : ℕ). x ++ (y ∷ [])) body-view (options-byte (at s 60) (t .options))
-      ∙ ap (λ (x : List ℕ). take 60 s ++ x) (sym (take-listed 60 1 s (omega arith)))
-      ∙ sym (take-add 60 1 s)
-      ∙ take-all 61 s (omega arith))
+      (ap₂ (λ (x y : List ℕ). x ++ y) body-view beyond-view
+      ∙ ap (λ (x : List ℕ). take 60 s ++ x) (sym (take-listed 60 4 s (omega arith)))
+      ∙ sym (take-add 60 4 s)
+      ∙ take-all 64 s (omega arith))
 
 -- and the other way round
 module _ (s : List ℕ) (long : length s ≡ stateLength) where
@@ -241,7 +288,7 @@ module _ (s : List ℕ) (long : length s ≡ stateLength) where
             ∙ sym (getD-drop (length c) (padded c) (k - length c) 0)
             ∙ ap (λ (l : List ℕ). getD l (k - length c) 0) (drop-append-seam c _)
             ∙ getD-zeros (16 - length c) (k - length c);
-        options = options-fit (body m) (length-body m short cells) (m .plain);
+        beyond = tidied-extended (body m) (length-body m short cells) (m .plain);
       }
 
   pub state-tidy : IsState s → Tidy s

@@ -1,14 +1,16 @@
 -- Numbers that are bytes or half bytes: the lines of a port, the mode byte with a bit changed, the cells of a RAM.
 -- Assumes nothing.
-use Prim.Native.Nat.{ℕ, zero, suc, _<_, _≤_}
+use Prim.Native.Nat.{ℕ, zero, suc, _+_, _*_, _<_, _≤_}
 use mathlib.Core.Path.{_≡_, refl}
-use mathlib.Core.Bool.{Bool, true, false, not}
+use mathlib.Core.Bool.{Bool, true, false, not, _&&_}
 use mathlib.Core.List.{List, [], _∷_}
 use native.Mathlib.Omega.{arith}
 use lib.ListN.{getD, set, replicate}
 use Rattle.machine.specs.State.{Public}
-use Rattle.machine.specs.Lines.{weight, setBit, clearBit, nibble, mouseOff, keyboardOff, keyboardRequest, mouseRequest, outputPort}
+use Rattle.machine.specs.Lines.{weight, setBit, clearBit, atMode, nibble, mouseOff, keyboardOff, keyboardInterrupt}
+use Rattle.machine.specs.Lines.{keyboardRequest, mouseRequest, outputPort}
 use Rattle.machine.specs.Commands.{testInputs}
+use Rattle.machine.proofs.Laws.Cond.{cond-both}
 
 -- ---- weight, nibble
 pub weight-le : (w : ℕ) (b : Bool) → weight w b ≤ w
@@ -19,16 +21,24 @@ pub nibble-below : (a b c d : Bool) → nibble a b c d < 16
 unfolding nibble
 nibble-below a b c d = omega (arith, weight-le 1 a, weight-le 2 b, weight-le 4 c, weight-le 8 d)
 
+nibbles-below : (low high : ℕ) → low < 16 → high < 16 → low + 16 * high < 256
+nibbles-below low high a b = omega arith
+
 -- ---- outputPort, testInputs
 pub outputPort-below : (p : Public) → outputPort p < 256
 unfolding outputPort
 outputPort-below p =
-    let low = nibble-below (p .ports .p20) (p .ports .p21) false (mouseOff p) in
-    let high = nibble-below (keyboardRequest p) (mouseRequest p) (keyboardOff p) false in
-    omega arith
+    let q = p .ports in
+    cond-both (λ n. n < 256) (atMode p)
+    (nibbles-below _ _ (nibble-below (q .p20) (q .p21) (q .p22) (q .p23)) (nibble-below (p .output .full && keyboardInterrupt p) (q .p25) (keyboardOff p) true))
+    (nibbles-below _ _ (nibble-below (q .p20) (q .p21) false (mouseOff p)) (nibble-below (keyboardRequest p) (mouseRequest p) (keyboardOff p) false))
 
 pub testInputs-below : (p : Public) → testInputs p < 256
-testInputs-below p = omega (arith, nibble-below (not (keyboardOff p)) (not (mouseOff p)) false false)
+unfolding testInputs
+testInputs-below p =
+    cond-both (λ n. n < 256) (atMode p)
+    (omega (arith, nibble-below true (not (keyboardOff p)) false false))
+    (omega (arith, nibble-below (not (keyboardOff p)) (not (mouseOff p)) false false))
 
 -- ---- clearBit, setBit
 pub clearBit-below : (n k m : ℕ) → n < m → clearBit n k < m

@@ -11,20 +11,21 @@ use native.Mathlib.Nat.{not-suc-le-zero}
 use borrow.Author.Tests.{ltb-true, eqb-true, eqb-false}
 use Rattle.translation.specs.Bits.{bit}
 use Rattle.translation.proofs.Tests.{split, and-true}
-use Rattle.machine.specs.State.{Machine, lift, withOutput, withRam}
-use Rattle.machine.specs.Lines.{withMode}
+use Rattle.machine.specs.State.{Machine, lift, withOutput, withErrors, withRam}
+use Rattle.machine.specs.Lines.{weight, nibble, atMode, withMode}
 use Rattle.machine.specs.DataPort.{settled, dataWritten, send, latched, dropped, appended}
 use Rattle.machine.specs.Commands.{pendingOf, cellNamed, commandWritten, overlaid, closed}
-use Rattle.machine.specs.Frames.{errorsSet, breaking, positioned, opened, pinned}
+use Rattle.machine.specs.Frames.{errorsSet, notTaken, breaking, positioned, opened, pinned}
 use Rattle.machine.specs.Events.{emptied}
 use Rattle.machine.specs.Flags as flags
 use Rattle.machine.specs.Flags.{Flags, flagsOf}
-use Rattle.machine.specs.View.{stateLength, at, view}
+use Rattle.machine.specs.View.{stateLength, at, public, view}
 use Rattle.machine.specs.Kept.{Kept}
 use Rattle.machine.specs.Changed.{Changed, KeptChange}
 use Rattle.machine.proofs.Laws.View as stores
 use Rattle.machine.proofs.Laws.View.{cleared, set-dropped}
-use Rattle.machine.proofs.Laws.Body.{Tidy, tidy-state, state-tidy}
+use Rattle.machine.proofs.Laws.Bits.{spread, highLatches-byte, highLatches-0, highLatches-1, highLatches-3}
+use Rattle.machine.proofs.Laws.Body.{tidied, Tidy, tidy-state, state-tidy}
 
 -- ---- Changed
 pub changed : {rule : Machine → Machine} {s s′ : List ℕ} → length s ≡ stateLength → view s′ ≡ rule (view s) → (Tidy s → Tidy s′) → Changed rule s s′
@@ -68,14 +69,17 @@ pub record Fits (i v : ℕ) : Type 0 where
   pub overlay : i ≡ 6 → v < 2
   pub size : i ≡ 10 → ⊥
   pub code : (k : ℕ) → k < 16 → i ≡ 12 + k → ⊥
-  pub options : i ≡ 60 → ⊥
+  pub beyond : (k : ℕ) → i ≡ 60 + k → tidied k v ≡ v
+
+holds-set : (P : ℕ → Type 0) (s : List ℕ) (i v j : ℕ) → (i ≡ j → P v) → P (getD s j 0) → P (getD (set s i v) j 0)
+holds-set P [] i v j new old = old
+holds-set P (x ∷ s) zero v zero new old = new refl
+holds-set P (x ∷ s) zero v (suc j) new old = old
+holds-set P (x ∷ s) (suc i) v zero new old = old
+holds-set P (x ∷ s) (suc i) v (suc j) new old = holds-set P s i v j (λ e. new (ap suc e)) old
 
 bound-set : (s : List ℕ) (i v j b : ℕ) → (i ≡ j → v < b) → getD s j 0 < b → getD (set s i v) j 0 < b
-bound-set [] i v j b new old = old
-bound-set (x ∷ s) zero v zero b new old = new refl
-bound-set (x ∷ s) zero v (suc j) b new old = old
-bound-set (x ∷ s) (suc i) v zero b new old = old
-bound-set (x ∷ s) (suc i) v (suc j) b new old = bound-set s i v j b (λ e. new (ap suc e)) old
+bound-set s i v j b = holds-set (λ x. x < b) s i v j
 
 pub tidy-set : {i v : ℕ} {s : List ℕ} → Fits i v → Tidy s → Tidy (set s i v)
 tidy-set {i} {v} {s} f t =
@@ -87,7 +91,7 @@ tidy-set {i} {v} {s} f t =
       overlay = bound-set s i v 6 2 (f .overlay) (t .overlay);
       size = rw size (t .size);
       rest = λ k low high. getD-set-other s i (12 + k) v 0 (λ e. f .code k high (sym e)) ∙ t .rest k (omega (arith, size)) high;
-      options = bound-set s i v 60 2 (λ e. absurd (f .options e)) (t .options);
+      beyond = λ k. holds-set (λ x. tidied k x ≡ x) s i v (60 + k) (f .beyond k) (t .beyond k);
     }
 
 -- the bytes of which every value stands for something
@@ -100,13 +104,14 @@ free i = unpadded i && ltb i 12
 pub fits-free : {v : ℕ} (i : ℕ) → free i ≡ true → Fits i v
 fits-free i passed =
     let other : (j : ℕ) → free j ≡ false → i ≡ j → ⊥ = λ j no e. false≢true (sym no ∙ ap free (sym e) ∙ passed) in
+    let early : i < 12 = ltb-true i 12 (and-true (unpadded i) (ltb i 12) passed .1) in
     record {
       flags = λ e. absurd (other 1 refl e);
       latches = λ e. absurd (other 3 refl e);
       overlay = λ e. absurd (other 6 refl e);
       size = other 10 refl;
-      code = λ k h e. absurd (omega (arith, ltb-true i 12 (and-true (unpadded i) (ltb i 12) passed .1)));
-      options = other 60 refl;
+      code = λ k h e. absurd (omega (arith, early));
+      beyond = λ k e. absurd (omega (arith, early));
     }
 
 pub fits-cell : {v : ℕ} (k : ℕ) → k < 32 → Fits (28 + k) v
@@ -117,7 +122,7 @@ fits-cell k inside =
       overlay = λ e. omega arith;
       size = λ e. omega arith;
       code = λ j h e. omega arith;
-      options = λ e. omega arith;
+      beyond = λ j e. absurd (omega arith);
     }
 
 -- the bytes before the code's length of which not every value does
@@ -129,7 +134,19 @@ fits-early early flags latches overlay =
       overlay = overlay;
       size = λ e. omega arith;
       code = λ k h e. omega arith;
-      options = λ e. omega arith;
+      beyond = λ k e. absurd (omega arith);
+    }
+
+-- and those behind the body
+fits-late : {v : ℕ} (k : ℕ) → tidied k v ≡ v → Fits (60 + k) v
+fits-late {v} k tidy =
+    record {
+      flags = λ e. omega arith;
+      latches = λ e. omega arith;
+      overlay = λ e. omega arith;
+      size = λ e. omega arith;
+      code = λ j h e. omega arith;
+      beyond = λ j e. let same : k ≡ j = omega arith in subst (λ (i : ℕ). tidied i v ≡ v) same tidy;
     }
 
 fits-flags : {v : ℕ} → v < 128 → Fits 1 v
@@ -167,17 +184,35 @@ module _ {s : List ℕ} (long : length s ≡ stateLength) where
   stored-mode = stored-cell {k = 0} (omega arith)
 
   -- ---- latches and overlay
-  pub stored-latches : (v : ℕ) → Changed (lift (latched v)) s (set s 3 (v % 4))
-  stored-latches v =
+  stored-lowLatches : (v : ℕ) → Changed (lift (stores.lowLatched v)) s (set s 3 (v % 4))
+  stored-lowLatches v =
       let low : bit (v % 4) 0 ≡ bit v 0 = omega arith in
       let high : bit (v % 4) 1 ≡ bit v 1 = omega arith in
       changed long (stores.set-latches s long (v % 4) ∙ rw (low, high))
       (tidy-set (fits-latches (omega arith)))
 
+  stored-highLatches : (v : ℕ) → Changed (lift (stores.highLatched (spread v))) s (set s 62 (spread v))
+  stored-highLatches v = changed long (stores.set-highLatches s long (spread v)) (tidy-set (fits-late 2 (highLatches-byte v)))
+
+  -- the transmit time-out
+  pub stored-timeout : (b : Bool) → Changed (lift (stores.timeoutSet b)) s (set s 63 (weight 1 b))
+  stored-timeout true = changed long (stores.set-timeout s long 1) (tidy-set (fits-late 3 (unfold nibble in refl)))
+  stored-timeout false = changed long (stores.set-timeout s long 0) (tidy-set (fits-late 3 (unfold nibble in refl)))
+
   pub stored-overlay : {n : ℕ} → Changed (lift (overlaid n)) s (set (set s 6 1) 7 n)
   stored-overlay {n} =
       changed long (stores.set-overlay s long n)
       (λ t. tidy-set (fits-free 7 refl) (tidy-set (fits-overlay (omega arith)) t))
+
+-- ---- the latches that D1h writes: in PS/2 mode those of P20 and P21, in AT mode those of P22, P23 and P25 too
+module _ {s : List ℕ} {all : Bool} (long : length s ≡ stateLength) (isAll : all ≡ atMode (public s)) (v : ℕ) where
+  pub stored-two : all ≡ false → Changed (lift (latched v)) s (set s 3 (v % 4))
+  stored-two ps2 = by-rule (stored-lowLatches long v) (simp (sym isAll ∙ ps2))
+
+  pub stored-five : all ≡ true → Changed (lift (latched v)) s (set (set s 3 (v % 4)) 62 (spread v))
+  stored-five at′ =
+      by-two (stored-lowLatches long v) (stored-highLatches (length-set s 3 (v % 4) ∙ long) v)
+      (simp (sym isAll ∙ at′, highLatches-0 v, highLatches-1 v, highLatches-3 v))
 
 -- ---- flags: f is the flags' byte with some of them replaced
 abbrev pub Reflagged : List ℕ → ℕ → Flags → Type 0
@@ -199,8 +234,20 @@ module _ {s : List ℕ} {f : ℕ} (long : length s ≡ stateLength) where
   pub stored-dataWritten : Reflagged s f (flags.withCommand false (flagsOf (at s 1))) → Changed (lift dataWritten) s (set s 1 f)
   stored-dataWritten h = changed long (stores.set-flags s long f _ (h .0)) (tidy-flags (h .1))
 
-  pub stored-errors : {t e : Bool} → Reflagged s f (flags.withErrors t e (flagsOf (at s 1))) → Changed (lift (errorsSet t e)) s (set s 1 f)
-  stored-errors h = changed long (stores.set-flags s long f _ (h .0)) (tidy-flags (h .1))
+  stored-errorFlags : {t e : Bool} → Reflagged s f (flags.withErrors t e (flagsOf (at s 1))) →
+      Changed (lift (λ p. withErrors p (record { terr = t; perr = e; ttim = p .errors .ttim }))) s (set s 1 f)
+  stored-errorFlags h = changed long (stores.set-flags s long f _ (h .0)) (tidy-flags (h .1))
+
+  pub stored-errors : {t e : Bool} → Reflagged s f (flags.withErrors t e (flagsOf (at s 1))) →
+      Changed (lift (errorsSet t e)) s (set (set s 1 f) 63 0)
+  stored-errors h = chain (stored-errorFlags h) (stored-timeout (length-set s 1 f ∙ long) false)
+
+  pub stored-notTaken : {apart : Bool} {v : ℕ} → apart ≡ atMode (public s) → v ≡ weight 1 apart →
+      Reflagged s f (flags.withErrors (not apart) false (flagsOf (at s 1))) →
+      Changed (lift notTaken) s (set (set s 1 f) 63 v)
+  stored-notTaken {apart} isApart isBit h =
+      subst (λ (x : ℕ). Changed (lift notTaken) s (set (set s 1 f) 63 x)) (sym isBit)
+      (by-two (stored-errorFlags h) (stored-timeout (length-set s 1 f ∙ long) apart) (rw isApart))
 
   pub stored-breaks : {b : Bool} → Reflagged s f (flags.withBreaks b (flagsOf (at s 1))) → Changed (lift (breaking b)) s (set s 1 f)
   stored-breaks h = changed long (stores.set-flags s long f _ (h .0)) (tidy-flags (h .1))
@@ -241,7 +288,7 @@ module _ {s : List ℕ} (long : length s ≡ stateLength) where
         overlay = rw (later 6 (λ e. omega arith) (λ e. omega arith)) (t .overlay);
         size = rw size (omega arith);
         rest = λ k low high. later (12 + k) (λ e. omega (arith, size, low)) (λ e. omega arith) ∙ t .rest k (omega (arith, size, low)) high;
-        options = rw (later 60 (λ e. omega arith) (λ e. omega arith)) (t .options);
+        beyond = λ k. rw (later (60 + k) (λ e. omega arith) (λ e. omega arith)) (t .beyond k);
       })
 
 -- dropped: its sixteen bytes are 0
@@ -281,5 +328,5 @@ module _ (s : List ℕ) where
         size = rw (getD-set-same (cleared 16 s) 10 0 0 (omega (arith, long′))) (omega arith);
         rest = λ k low high.
             getD-set-other (cleared 16 s) 10 (12 + k) 0 0 (λ e. omega arith) ∙ cleared-zero 16 k (omega arith) high;
-        options = rw (later 60 (λ e. omega arith) (λ k h e. omega arith)) (t .options);
+        beyond = λ k. rw (later (60 + k) (λ e. omega arith) (λ j h e. omega arith)) (t .beyond k);
       })

@@ -1,15 +1,18 @@
 -- Laws of the definitions in specs/Commands. Assumes nothing.
-use mathlib.Core.Path.{_≡_, refl, sym, _∙_}
-use mathlib.Core.Bool.{Bool, true, false, _&&_, false≢true}
+use mathlib.Core.Path.{_≡_, refl, ap, sym, _∙_}
+use mathlib.Core.Bool.{Bool, true, false, not, _&&_, false≢true}
 use Prim.Native.Nat.{ℕ, _-_, _/_, _%_, _≤_, _<_}
 use native.Mathlib.Omega.{arith}
 use lib.Dec.{leb}
 use borrow.Author.Tests.{leb-true, le-leb, lt-leb, eq-eqb, ne-eqb}
-use Rattle.machine.specs.State.{Machine, lift}
-use Rattle.machine.specs.Lines.{put, putCell, keyboardDisabled, keyboardEnabled, mouseDisabled, mouseEnabled}
+use Rattle.translation.specs.Bits.{has}
+use Rattle.machine.specs.Settings.{Settings}
+use Rattle.machine.specs.State.{Public, Machine, lift}
+use Rattle.machine.specs.Lines.{atMode, nibble, put, putCell, keyboardOff, mouseOff, keyboardDisabled, keyboardEnabled, mouseDisabled, mouseEnabled}
 use Rattle.machine.specs.DataPort.{dropped}
-use Rattle.machine.specs.Commands.{within, loadCut, selfTested, testInputsPut, outputPortPut, namedCellPut, overlaid}
-use Rattle.machine.specs.Commands.{plainCommand, acts, hasCode, codeAsked, closed, lockedUp}
+use Rattle.machine.specs.Commands.{within, ps2Only, understood, commandWritten, loadCut, selfTested, testInputs, testInputsPut}
+use Rattle.machine.specs.Commands.{outputPortPut, namedCellPut, overlaid}
+use Rattle.machine.specs.Commands.{plainCommand, acts, hasCode, codeAsked, closed, lockedUp, writeCommand, pulseOf}
 
 -- ---- within
 and-left : (a b : Bool) → (a && b) ≡ true → a ≡ true
@@ -32,6 +35,14 @@ cell-of-20 c h = omega (arith, within-low 0x20 0x3F c h, within-high 0x20 0x3F c
 
 pub cell-of-61 : (c : ℕ) → within 0x61 0x7F c ≡ true → c % 32 ≡ c - 0x60
 cell-of-61 c h = omega (arith, within-low 0x61 0x7F c h, within-high 0x61 0x7F c h)
+
+-- ---- understood
+module _ (x : Settings) (c : ℕ) {at′ only : Bool} (isAt : at′ ≡ x .atMode) (isOnly : only ≡ ps2Only c) where
+  pub understood-none : (at′ && only) ≡ true → 0 ≡ understood x c
+  understood-none h = simp (simp (isAt, isOnly) at h)
+
+  pub understood-same : (at′ && only) ≡ false → c ≡ understood x c
+  understood-same h = simp (simp (isAt, isOnly) at h)
 
 -- ---- loadCut
 pub loadCut-load : (m : Machine) → m .plain .host .pending ≡ 3 → dropped m ≡ loadCut m
@@ -157,6 +168,33 @@ module _ (m : Machine) (c : ℕ) where
   pub acts-other : (c ≡ 0xA4 → ⊥) → (c ≡ 0xA5 → ⊥) → (c ≡ 0xA6 → ⊥) → lift (plainCommand c) m ≡ acts c m
   unfolding acts
   acts-other nA4 nA5 nA6 = simp (ne-eqb _ _ nA4, ne-eqb _ _ nA5, ne-eqb _ _ nA6)
+
+-- ---- writeCommand
+pub writeCommand-known : (m : Machine) (c : ℕ) {known : ℕ} → known ≡ understood (m .plain .settings) c →
+    acts known (lift (commandWritten known) (loadCut m)) ≡ writeCommand c m
+unfolding writeCommand
+writeCommand-known m c same = ap (λ (k : ℕ). acts k (lift (commandWritten k) (loadCut m))) same
+
+-- ---- testInputs, pulseOf
+module _ (p : Public) {r : ℕ} {at′ off : Bool} (isAt : at′ ≡ atMode p) (isOff : off ≡ keyboardOff p) where
+  pub testInputs-at : at′ ≡ true → r ≡ nibble true (not off) false false → r ≡ testInputs p
+  unfolding testInputs
+  testInputs-at h made = made ∙ simp (sym isAt ∙ h, isOff)
+
+  pub testInputs-ps2 : {mouse : Bool} → at′ ≡ false → mouse ≡ mouseOff p → r ≡ nibble (not off) (not mouse) false false → r ≡ testInputs p
+  unfolding testInputs
+  testInputs-ps2 h isMouse made = made ∙ simp (sym isAt ∙ h, isOff, isMouse)
+
+module _ (x : Settings) (c : ℕ) where
+  pub pulseOf-some : {r : ℕ} {all : Bool} → 0xF0 ≤ c → all ≡ x .atMode →
+      r ≡ nibble (not (has c 0)) (not (has c 1)) (all && not (has c 2)) (all && not (has c 3)) →
+      r ≡ pulseOf x c
+  unfolding pulseOf
+  pulseOf-some h isAll made = made ∙ simp (le-leb 0xF0 c h, isAll)
+
+  pub pulseOf-none : c < 0xF0 → 0 ≡ pulseOf x c
+  unfolding pulseOf
+  pulseOf-none h = simp (lt-leb 0xF0 c h)
 
 -- ---- codeAsked, lockedUp
 module _ (m : Machine) {has : Bool} (isHas : has ≡ hasCode m) where

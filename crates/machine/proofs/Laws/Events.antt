@@ -13,7 +13,7 @@ use Rattle.machine.specs.Lines.{inputFull}
 use Rattle.machine.specs.DataPort.{writeData}
 use Rattle.machine.specs.Commands.{writeCommand}
 use Rattle.machine.specs.Frames.{keyboardFrame, mouseFrame, taken, timedOut, pinned}
-use Rattle.machine.specs.Events.{Event, event, value, valueOf, isWrite, isFrame, endsSending, limit, deviceOff, refusal, stateRefusal}
+use Rattle.machine.specs.Events.{Event, event, value, valueOf, isWrite, isFrame, endsSending, limit, fromNoMouse, deviceOff, refusal, stateRefusal}
 use Rattle.machine.specs.Events.{emptied, accept, step, reply, refusedReply, byteRead, oldMark, pulse, lines}
 use Rattle.machine.proofs.Laws.Cond.{cond-zero, and-false, or-false}
 
@@ -22,6 +22,7 @@ use Rattle.machine.proofs.Laws.Cond.{cond-zero, and-false, or-false}
 pub record Accepted (p : Public) (e : Event) : Type 0 where
   pub kind : ltb 8 (e .kind) ≡ false
   pub high : ltb (limit (e .kind)) (value e) ≡ false
+  pub absent : fromNoMouse p (e .kind) ≡ false
   pub busy : (isWrite (e .kind) && inputFull p) ≡ false
   pub shut : (isWrite (e .kind) && p .locked) ≡ false
   pub early : (isFrame (e .kind) && (deviceOff p (e .kind) || (p .output .full || inputFull p))) ≡ false
@@ -32,10 +33,11 @@ unfolding refusal stateRefusal
 accepted p e a =
     let (kind, a₂) = cond-zero _ 0 _ a in
     let (high, a₃) = cond-zero _ 1 _ a₂ in
-    let (busy, a₄) = cond-zero _ 2 _ a₃ in
-    let (shut, a₅) = cond-zero _ 3 _ a₄ in
-    let (early, a₆) = cond-zero _ 4 _ a₅ in
-    record { kind = kind; high = high; busy = busy; shut = shut; early = early; idle = cond-zero _ 5 _ a₆ .0 }
+    let (absent, a₄) = cond-zero _ 11 _ a₃ in
+    let (busy, a₅) = cond-zero _ 2 _ a₄ in
+    let (shut, a₆) = cond-zero _ 3 _ a₅ in
+    let (early, a₇) = cond-zero _ 4 _ a₆ in
+    record { kind = kind; high = high; absent = absent; busy = busy; shut = shut; early = early; idle = cond-zero _ 5 _ a₇ .0 }
 
 inputFull-false : (p : Public) → inputFull p ≡ false → p .sending .to ≡ 0
 inputFull-false p h = eqb-true _ _ (not-false _ h)
@@ -161,7 +163,8 @@ pub reply-refused : (p : Public) (e : Event) (q : Public) (n : ℕ) → n ≡ re
 unfolding reply
 reply-refused p e q n same r = simp (← same, ne-eqb n 0 r)
 
-pub reply-accepted : (p : Public) (e : Event) (q : Public) → refusal p e ≡ 0 → reply p e q ≡ 0 ∷ byteRead p (e .kind) ∷ oldMark p (e .kind) ∷ lines q (pulse e)
+pub reply-accepted : (p : Public) (e : Event) (q : Public) → refusal p e ≡ 0 →
+    reply p e q ≡ 0 ∷ byteRead p (e .kind) ∷ oldMark p (e .kind) ∷ lines q (pulse p e)
 unfolding reply
 reply-accepted p e q a = simp a
 

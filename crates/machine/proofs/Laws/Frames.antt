@@ -10,7 +10,7 @@ use borrow.Author.Tests.{eq-eqb, ne-eqb}
 use Rattle.translation.specs.ScanCodes.{Translation, translate, raw, builtIn}
 use Rattle.machine.specs.State.{Public, Machine, lift}
 use Rattle.machine.specs.Lines.{inhibited, mouseInhibited, translates, put, putMouse}
-use Rattle.machine.specs.Frames.{errorsSet, positioned, keyError, ignored, matches, completes, unlocked, advanced, try}
+use Rattle.machine.specs.Frames.{notTaken, positioned, keyError, ignored, matches, completes, unlocked, advanced, try}
 use Rattle.machine.specs.Frames.{keyedByte, translated}
 use Rattle.machine.specs.Frames.{mousePut, idle, timedOut}
 use Rattle.machine.specs.View.{stateLength, view}
@@ -93,10 +93,10 @@ module _ (m : Machine) (b : ℕ) {shut off : Bool} (isShut : shut ≡ m .plain .
   mousePut-on h = simp (simp (isShut, isOff) at h)
 
 -- ---- timedOut
-pub timedOut-mouse : (m : Machine) → m .plain .sending .to ≡ 2 → lift (putMouse 0xFE) (lift (errorsSet true false) (lift idle m)) ≡ lift timedOut m
+pub timedOut-mouse : (m : Machine) → m .plain .sending .to ≡ 2 → lift (putMouse 0xFE) (lift notTaken (lift idle m)) ≡ lift timedOut m
 unfolding timedOut
 timedOut-mouse m h = simp (eq-eqb _ _ h)
 
-pub timedOut-keyboard : (m : Machine) → (m .plain .sending .to ≡ 2 → ⊥) → lift (put 0xFE) (lift (errorsSet true false) (lift idle m)) ≡ lift timedOut m
+pub timedOut-keyboard : (m : Machine) → (m .plain .sending .to ≡ 2 → ⊥) → lift (put 0xFE) (lift notTaken (lift idle m)) ≡ lift timedOut m
 unfolding timedOut
 timedOut-keyboard m h = simp (ne-eqb _ _ h)

@@ -36,7 +36,8 @@ module _ (x : Settings) where
   pub fresh-kept : Kept (fresh x)
   unfolding fresh
   fresh-kept =
-      grouped-kept (fresh x) (omega arith, λ e. e) (omega arith, omega arith, λ _. refl, omega arith, λ _. refl) (omega arith)
+      grouped-kept (fresh x) (omega arith, λ e. e) (λ _. refl) (omega arith, omega arith, λ _. refl, omega arith, λ _. refl)
+      (omega arith, λ _. (refl, refl, refl))
       (omega arith, omega arith, λ _. refl)
       fresh-ram-kept
       (omega arith, omega arith)

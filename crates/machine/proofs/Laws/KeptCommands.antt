@@ -10,7 +10,7 @@ use borrow.Author.Tests.{eqb-true, eqb-false, ne-eqb, leb-true, le-leb, not-true
 use Rattle.translation.proofs.Tests.{and-true}
 use Rattle.machine.specs.State.{Machine, lift}
 use Rattle.machine.specs.Lines.{mode, clearBit}
-use Rattle.machine.specs.Commands.{within, pendingOf, cellNamed, commandWritten, loadCut, overlaid, selfTested, plainCommand}
+use Rattle.machine.specs.Commands.{within, understood, pendingOf, cellNamed, commandWritten, loadCut, overlaid, selfTested, plainCommand}
 use Rattle.machine.specs.Commands.{hasCode, codeAsked, closed, lockedUp, acts, writeCommand}
 use Rattle.machine.specs.Kept.{Kept}
 use Rattle.machine.proofs.Laws.Cond.{cond-holds, cond-both, not-both}
@@ -124,6 +124,7 @@ acts-written-kept k unlocked nobody c =
 pub writeCommand-kept : {m : Machine} → Kept m → m .plain .locked ≡ false → m .plain .sending .to ≡ 0 → (c : ℕ) → Kept (writeCommand c m)
 unfolding writeCommand loadCut
 writeCommand-kept {m} k unlocked nobody c =
-    cond-both (λ x. Kept (acts c (lift (commandWritten c) x))) (eqb (m .plain .host .pending) 3)
-    (acts-written-kept (dropped-kept k unlocked) unlocked nobody c)
-    (acts-written-kept k unlocked nobody c)
+    let known = understood (m .plain .settings) c in
+    cond-both (λ x. Kept (acts known (lift (commandWritten known) x))) (eqb (m .plain .host .pending) 3)
+    (acts-written-kept (dropped-kept k unlocked) unlocked nobody known)
+    (acts-written-kept k unlocked nobody known)

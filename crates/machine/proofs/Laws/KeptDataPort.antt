@@ -27,7 +27,7 @@ module _ {m : Machine} (k : Kept m) where
   dataWritten-kept = withHost-kept k _ (kept-host k) (λ l. k .locked l .1)
 
   pub latched-kept : (v : ℕ) → Kept (lift (latched v) m)
-  latched-kept v = withPorts-kept k _ (k .pins)
+  latched-kept v = withPorts-kept k _ (k .pins, λ ps2. simp ps2 (k .latches ps2))
 
   pub cellWritten-kept : (v : ℕ) → v < 256 → m .plain .host .pending ≡ 2 → Kept (lift (cellWritten v) m)
   cellWritten-kept v byte named =

@@ -12,7 +12,7 @@ use Rattle.translation.specs.ScanCodes.{Translation, Yielded, nothing, byte, ra
 use Rattle.translation.proofs.ScanCodes.{translate-builtIn-below}
 use Rattle.machine.specs.State.{Public, Machine, lift}
 use Rattle.machine.specs.Lines.{inhibited, mouseInhibited, translates}
-use Rattle.machine.specs.Frames.{errorsSet, positioned, keyError, damagedKey, ignored, matches, completes, opened}
+use Rattle.machine.specs.Frames.{notTaken, positioned, keyError, damagedKey, ignored, matches, completes, opened}
 use Rattle.machine.specs.Frames.{unlocked, advanced, try, keyed, keyedByte, translated, soundKey, keyboardFrame}
 use Rattle.machine.specs.Frames.{mousePut, mouseFrame, idle, taken, timedOut, pinned}
 use Rattle.machine.specs.Kept.{Kept}
@@ -52,7 +52,7 @@ keyError-kept {m} k =
     cond-both (KeptWith (m .secret)) (m .plain .locked || inhibited (m .plain)) k (put-kept k 0xFF (omega arith))
 
 pub damagedKey-kept : {m : Machine} → Kept m → (t e : Bool) → Kept (damagedKey t e m)
-damagedKey-kept k t e = positioned-zero-kept (keyError-kept (withBreaks-kept (withErrors-kept k _) false))
+damagedKey-kept k t e = positioned-zero-kept (keyError-kept (withBreaks-kept (withErrors-kept k _ (λ _. refl)) false))
 
 -- ---- translated, keyed, keyedByte, soundKey
 pub translated-below : (b : ℕ) (p : Public) → b < 256 → (x : ℕ) → translated b p .yields ≡ byte x → x < 256
@@ -71,7 +71,7 @@ keyed-kept {m} k (byte x) small =
 pub soundKey-kept : {m : Machine} → Kept m → (b : ℕ) → b < 256 → Kept (soundKey b m)
 unfolding soundKey
 soundKey-kept {m} k b small =
-    keyed-kept (withBreaks-kept (withErrors-kept k _) _) _ (translated-below b (m .plain) small)
+    keyed-kept (withBreaks-kept (withErrors-kept k _ (λ _. refl)) _) _ (translated-below b (m .plain) small)
 
 -- ---- keyboardFrame
 pub keyboardFrame-kept : {m : Machine} → Kept m → (c : Check) → ((b : ℕ) → c ≡ sound b → b < 256) → Kept (keyboardFrame c m)
@@ -89,9 +89,9 @@ mousePut-kept {m} k b small =
 
 pub mouseFrame-kept : {m : Machine} → Kept m → (c : Check) → ((b : ℕ) → c ≡ sound b → b < 256) → Kept (lift (mouseFrame c) m)
 unfolding mouseFrame
-mouseFrame-kept k (sound b) small = mousePut-kept (withErrors-kept k _) b (small b refl)
-mouseFrame-kept k parity small = mousePut-kept (withErrors-kept k _) 0xFF (omega arith)
-mouseFrame-kept k broken small = mousePut-kept (withErrors-kept k _) 0xFF (omega arith)
+mouseFrame-kept k (sound b) small = mousePut-kept (withErrors-kept k _ (λ _. refl)) b (small b refl)
+mouseFrame-kept k parity small = mousePut-kept (withErrors-kept k _ (λ _. refl)) 0xFF (omega arith)
+mouseFrame-kept k broken small = mousePut-kept (withErrors-kept k _ (λ _. refl)) 0xFF (omega arith)
 mouseFrame-kept k noise small = k
 
 module _ {m : Machine} (k : Kept m) where
@@ -100,15 +100,15 @@ module _ {m : Machine} (k : Kept m) where
   idle-kept = withSending-kept k _ (omega arith, omega arith, λ _. refl) (λ _. refl)
 
   pub taken-kept : Kept (lift taken m)
-  taken-kept = withErrors-kept idle-kept _
+  taken-kept = withErrors-kept idle-kept _ (λ _. refl)
 
   pub timedOut-kept : Kept (lift timedOut m)
   unfolding timedOut
   timedOut-kept =
-      let k′ : Kept (lift (errorsSet true false) (lift idle m)) = withErrors-kept idle-kept _ in
+      let k′ : Kept (lift notTaken (lift idle m)) = withErrors-kept idle-kept _ (λ ps2. ps2) in
       cond-both (KeptWith (m .secret)) (eqb (m .plain .sending .to) 2) (putMouse-kept k′ 0xFE (omega arith))
       (put-kept k′ 0xFE (omega arith))
 
   -- ---- pinned
   pub pinned-kept : (v : ℕ) → v < 256 → Kept (lift (pinned v) m)
-  pinned-kept v small = withPorts-kept k _ small
+  pinned-kept v small = withPorts-kept k _ (small, k .latches)

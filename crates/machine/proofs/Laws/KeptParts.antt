@@ -5,6 +5,7 @@ use mathlib.Core.Path.{_≡_}
 use mathlib.Core.Bool.{Bool, true, false}
 use mathlib.Core.List.{List}
 use lib.ListN.{length, getD}
+use Rattle.machine.specs.Settings.{Settings}
 use Rattle.machine.specs.State.{Output, Errors, Host, Ports, Sending, Machine, lift}
 use Rattle.machine.specs.State.{withOutput, withErrors, withHost, withPorts, withSending, withBreaks, withLocked, withRam, withSecret}
 use Rattle.machine.specs.Kept.{Kept}
@@ -13,6 +14,13 @@ use Rattle.machine.proofs.Laws.Cond.{not-both}
 -- ---- the groups
 abbrev pub OutputKept : Output → Type 0
 OutputKept o = (o .byte < 256) × (o .mouse ≡ true → o .full ≡ true)
+
+-- in PS/2 mode what AT mode adds has its fresh value
+abbrev pub ErrorsKept : Settings → Errors → Type 0
+ErrorsKept x e = x .atMode ≡ false → e .ttim ≡ false
+
+abbrev pub PortsKept : Settings → Ports → Type 0
+PortsKept x q = (q .pins < 256) × (x .atMode ≡ false → (q .p22 ≡ true) × (q .p23 ≡ true) × (q .p25 ≡ false))
 
 abbrev pub HostKept : Host → Type 0
 HostKept h =
@@ -40,18 +48,21 @@ LockKept m =
 -- a machine that keeps the rules of each group keeps them
 pub grouped-kept : (m : Machine) →
     OutputKept (m .plain .output) →
+    ErrorsKept (m .plain .settings) (m .plain .errors) →
     HostKept (m .plain .host) →
-    m .plain .ports .pins < 256 →
+    PortsKept (m .plain .settings) (m .plain .ports) →
     SendingKept (m .plain .sending) →
     RamKept (m .plain .ram) →
     CodeKept (m .secret .code) →
     LockKept m →
     Kept m
-grouped-kept m o h p s r c l =
+grouped-kept m o e h p s r c l =
     record {
       output = o .0;
       source = o .1;
-      pins = p;
+      pins = p .0;
+      latches = p .1;
+      ttim = e;
       pending = h .0;
       cell = h .1;
       noCell = h .2;
@@ -73,6 +84,12 @@ grouped-kept m o h p s r c l =
 module _ {m : Machine} (k : Kept m) where
   pub kept-output : OutputKept (m .plain .output)
   kept-output = (k .output, k .source)
+
+  pub kept-errors : ErrorsKept (m .plain .settings) (m .plain .errors)
+  kept-errors = k .ttim
+
+  pub kept-ports : PortsKept (m .plain .settings) (m .plain .ports)
+  kept-ports = (k .pins, k .latches)
 
   pub kept-host : HostKept (m .plain .host)
   kept-host = (k .pending, k .cell, k .noCell, k .nibble, k .noNibble)
@@ -97,41 +114,41 @@ withLock b i m = record { plain = withLocked (m .plain) b; secret = record { cod
 module _ {m : Machine} (k : Kept m) where
   pub withOutput-kept : (o : Output) → OutputKept o → Kept (lift (λ p. withOutput p o) m)
   withOutput-kept o new =
-      grouped-kept _ new (kept-host k) (k .pins) (kept-sending k) (kept-ram k) (kept-code k) (kept-lock k)
+      grouped-kept _ new (kept-errors k) (kept-host k) (kept-ports k) (kept-sending k) (kept-ram k) (kept-code k) (kept-lock k)
 
-  pub withErrors-kept : (x : Errors) → Kept (lift (λ p. withErrors p x) m)
-  withErrors-kept x =
-      grouped-kept _ (kept-output k) (kept-host k) (k .pins) (kept-sending k) (kept-ram k) (kept-code k) (kept-lock k)
+  pub withErrors-kept : (x : Errors) → ErrorsKept (m .plain .settings) x → Kept (lift (λ p. withErrors p x) m)
+  withErrors-kept x new =
+      grouped-kept _ (kept-output k) new (kept-host k) (kept-ports k) (kept-sending k) (kept-ram k) (kept-code k) (kept-lock k)
 
   pub withBreaks-kept : (b : Bool) → Kept (lift (λ p. withBreaks p b) m)
   withBreaks-kept b =
-      grouped-kept _ (kept-output k) (kept-host k) (k .pins) (kept-sending k) (kept-ram k) (kept-code k) (kept-lock k)
+      grouped-kept _ (kept-output k) (kept-errors k) (kept-host k) (kept-ports k) (kept-sending k) (kept-ram k) (kept-code k) (kept-lock k)
 
-  pub withPorts-kept : (x : Ports) → x .pins < 256 → Kept (lift (λ p. withPorts p x) m)
+  pub withPorts-kept : (x : Ports) → PortsKept (m .plain .settings) x → Kept (lift (λ p. withPorts p x) m)
   withPorts-kept x new =
-      grouped-kept _ (kept-output k) (kept-host k) new (kept-sending k) (kept-ram k) (kept-code k) (kept-lock k)
+      grouped-kept _ (kept-output k) (kept-errors k) (kept-host k) new (kept-sending k) (kept-ram k) (kept-code k) (kept-lock k)
 
   pub withRam-kept : (r : List ℕ) → RamKept r → Kept (lift (λ p. withRam p r) m)
   withRam-kept r new =
-      grouped-kept _ (kept-output k) (kept-host k) (k .pins) (kept-sending k) new (kept-code k) (kept-lock k)
+      grouped-kept _ (kept-output k) (kept-errors k) (kept-host k) (kept-ports k) (kept-sending k) new (kept-code k) (kept-lock k)
 
   pub withHost-kept : (h : Host) → HostKept h → (m .plain .locked ≡ true → h .pending ≡ 0) → Kept (lift (λ p. withHost p h) m)
   withHost-kept h new none =
-      grouped-kept _ (kept-output k) new (k .pins) (kept-sending k) (kept-ram k) (kept-code k)
+      grouped-kept _ (kept-output k) (kept-errors k) new (kept-ports k) (kept-sending k) (kept-ram k) (kept-code k)
       (λ l. (k .locked l .0, none l, k .locked l .2), k .unlocked)
 
   pub withSending-kept : (s : Sending) → SendingKept s → (m .plain .locked ≡ true → s .to ≡ 0) → Kept (lift (λ p. withSending p s) m)
   withSending-kept s new nobody =
-      grouped-kept _ (kept-output k) (kept-host k) (k .pins) new (kept-ram k) (kept-code k)
+      grouped-kept _ (kept-output k) (kept-errors k) (kept-host k) (kept-ports k) new (kept-ram k) (kept-code k)
       (λ l. (k .locked l .0, k .locked l .1, nobody l), k .unlocked)
 
   -- a lock code is changed only while not locked
   pub withCode-kept : (c : List ℕ) → CodeKept c → m .plain .locked ≡ false → Kept (withSecret m (record { code = c; position = m .secret .position }))
   withCode-kept c new unlocked =
-      grouped-kept _ (kept-output k) (kept-host k) (k .pins) (kept-sending k) (kept-ram k) new
+      grouped-kept _ (kept-output k) (kept-errors k) (kept-host k) (kept-ports k) (kept-sending k) (kept-ram k) new
       (λ l. not-both l unlocked, k .unlocked)
 
   -- locked or not, with the position that goes with it
   pub withLock-kept : (b : Bool) (i : ℕ) → LockKept (withLock b i m) → Kept (withLock b i m)
   withLock-kept b i new =
-      grouped-kept _ (kept-output k) (kept-host k) (k .pins) (kept-sending k) (kept-ram k) (kept-code k) new
+      grouped-kept _ (kept-output k) (kept-errors k) (kept-host k) (kept-ports k) (kept-sending k) (kept-ram k) (kept-code k) new

@@ -8,8 +8,8 @@ use lib.ListN.{length, getD, take, drop, length-take, List·getD-eq-default}
 use lib.Seq.{getD-take, getD-drop}
 use borrow.Author.Tests.{eq-eqb, ne-eqb}
 use Rattle.machine.specs.State.{Public, Machine, lift}
-use Rattle.machine.specs.Lines.{weight, nibble, cellOf, keySwitch, highNibble, mouseInterrupt, keyboardInterrupt}
-use Rattle.machine.specs.Lines.{mouseRequest, keyboardRequest, mouseOff, keyboardOff, outputPort, put, putCell}
+use Rattle.machine.specs.Lines.{weight, nibble, atMode, cellOf, keySwitch, statusBit5, highNibble, mouseInterrupt, keyboardInterrupt}
+use Rattle.machine.specs.Lines.{mouseRequest, keyboardRequest, mouseOff, keyboardOff, ps2Port, atPort, outputPort, put, putCell}
 use Rattle.machine.specs.View.{stateLength, public}
 use Rattle.machine.proofs.Laws.View.{ram-of}
 
@@ -62,14 +62,20 @@ off-weight true true true = refl
 port-weight : (n : ℕ) (a b k : Bool) → n + 16 * nibble a b false false + weight 64 k ≡ n + 16 * nibble a b k false
 port-weight n a b k = omega (arith, off-weight a b k)
 
--- ---- highNibble
-pub highNibble-lines : (p : Public) {r : ℕ} {full mouse : Bool} → p .host .overlay ≡ false →
-    r ≡ 16 * nibble (keySwitch p) (full && mouse) (p .errors .terr) (p .errors .perr) →
-    full ≡ p .output .full →
-    mouse ≡ p .output .mouse →
+-- ---- statusBit5, highNibble
+module _ (p : Public) {at′ : Bool} (isAt : at′ ≡ atMode p) where
+  pub statusBit5-at : {r : Bool} → at′ ≡ true → r ≡ p .errors .ttim → r ≡ statusBit5 p
+  statusBit5-at h made = made ∙ simp (sym isAt ∙ h)
+
+  pub statusBit5-ps2 : {full mouse : Bool} → at′ ≡ false → full ≡ p .output .full → mouse ≡ p .output .mouse → (full && mouse) ≡ statusBit5 p
+  statusBit5-ps2 h isFull isMouse = simp (sym isAt ∙ h, isFull, isMouse)
+
+pub highNibble-lines : (p : Public) {r : ℕ} {shown : Bool} → p .host .overlay ≡ false →
+    r ≡ 16 * nibble (keySwitch p) shown (p .errors .terr) (p .errors .perr) →
+    shown ≡ statusBit5 p →
     r ≡ 16 * highNibble p
 unfolding highNibble
-highNibble-lines p none made isFull isMouse = made ∙ simp (none, isFull, isMouse)
+highNibble-lines p none made isBit = made ∙ simp (none, isBit)
 
 -- ---- the interrupt requests
 module _ (p : Public) {r : ℕ} {full mouse : Bool} (isFull : full ≡ p .output .full) (isMouse : mouse ≡ p .output .mouse) where
@@ -81,16 +87,30 @@ module _ (p : Public) {r : ℕ} {full mouse : Bool} (isFull : full ≡ p .output
       r ≡ 16 * nibble (keyboardRequest p) (mouseRequest p) false false
   keyboard-requested stands from made = made ∙ keyboard-weight (keyboardInterrupt p) ∙ simp (sym isFull ∙ stands, sym isMouse ∙ from)
 
--- ---- outputPort
-pub outputPort-sum : (p : Public) {low requests off : ℕ} {mouse keyboard : Bool} → mouse ≡ mouseOff p → keyboard ≡ keyboardOff p →
+-- ---- ps2Port, atPort, outputPort
+pub ps2Port-sum : (p : Public) {low requests off : ℕ} {mouse keyboard : Bool} → mouse ≡ mouseOff p → keyboard ≡ keyboardOff p →
     low ≡ nibble (p .ports .p20) (p .ports .p21) false mouse →
     requests ≡ 16 * nibble (keyboardRequest p) (mouseRequest p) false false →
     off ≡ weight 64 keyboard →
-    low + requests + off ≡ outputPort p
-unfolding outputPort
-outputPort-sum p isMouse isKeyboard isLow isRequests isOff =
+    low + requests + off ≡ ps2Port p
+ps2Port-sum p isMouse isKeyboard isLow isRequests isOff =
     simp (isLow, isRequests, isOff, isMouse, isKeyboard)
     (port-weight (nibble (p .ports .p20) (p .ports .p21) false (mouseOff p)) (keyboardRequest p) (mouseRequest p) (keyboardOff p))
+
+pub atPort-sum : (p : Public) {low high : ℕ} {full off : Bool} → full ≡ p .output .full → off ≡ keyboardOff p →
+    low ≡ nibble (p .ports .p20) (p .ports .p21) (p .ports .p22) (p .ports .p23) →
+    high ≡ 16 * nibble (full && keyboardInterrupt p) (p .ports .p25) off true →
+    low + high ≡ atPort p
+atPort-sum p isFull isOff isLow isHigh = simp (isLow, isHigh, isFull, isOff)
+
+module _ (p : Public) {r : ℕ} {at′ : Bool} (isAt : at′ ≡ atMode p) where
+  pub outputPort-at : at′ ≡ true → r ≡ atPort p → r ≡ outputPort p
+  unfolding outputPort
+  outputPort-at h made = made ∙ simp (sym isAt ∙ h)
+
+  pub outputPort-ps2 : at′ ≡ false → r ≡ ps2Port p → r ≡ outputPort p
+  unfolding outputPort
+  outputPort-ps2 h made = made ∙ simp (sym isAt ∙ h)
 
 -- ---- cellOf
 -- the program finds a cell behind the first 28 bytes

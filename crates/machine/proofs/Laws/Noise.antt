@@ -40,7 +40,7 @@ module _ (m : Machine) (e : Event) (n : Noise e) where
       (λ r. step-refused m e (eqb-false _ _ r))
 
   -- nothing is read or pulsed
-  quiet : (0 ∷ byteRead (m .plain) (e .kind) ∷ oldMark (m .plain) (e .kind) ∷ lines (m .plain) (pulse e)) ≡ refusedReply (m .plain) 0
+  quiet : (0 ∷ byteRead (m .plain) (e .kind) ∷ oldMark (m .plain) (e .kind) ∷ lines (m .plain) (pulse (m .plain) e)) ≡ refusedReply (m .plain) 0
   quiet = ⊎-elim (λ (k : e .kind ≡ 4). simp k) (λ (k : e .kind ≡ 5). simp k) (n .kind)
 
   reply-noise : reply (m .plain) e (m .plain) ≡ refusedReply (m .plain) (refusal (m .plain) e)

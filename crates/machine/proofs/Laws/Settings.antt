@@ -95,7 +95,7 @@ writeData-settings v m = simp (of-machine, loadByte-settings, plainData-settings
 
 writeCommand-settings : (c : ℕ) (m : Machine) → writeCommand c m .plain .settings ≡ m .plain .settings
 unfolding writeCommand
-writeCommand-settings c m = acts-settings _ c ∙ loadCut-settings m
+writeCommand-settings c m = acts-settings _ _ ∙ loadCut-settings m
 
 keyboardFrame-settings : (c : Check) (m : Machine) → keyboardFrame c m .plain .settings ≡ m .plain .settings
 unfolding keyboardFrame soundKey

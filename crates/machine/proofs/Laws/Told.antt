@@ -35,7 +35,7 @@ told-refused {s} {e} {t} {n} same stands (isNumber, isRead, isOld, isPulse) =
 
 -- ---- an accepted one
 pub told-accepted : {s s′ : List ℕ} {e : Event} {t : Told} {n : ℕ} → n ≡ refusal (public s) e → n ≡ 0 →
-    (t .refusal ≡ 0) × (t .read ≡ byteRead (public s) (e .kind)) × (t .old ≡ oldMark (public s) (e .kind)) × (t .pulse ≡ pulse e) →
+    (t .refusal ≡ 0) × (t .read ≡ byteRead (public s) (e .kind)) × (t .old ≡ oldMark (public s) (e .kind)) × (t .pulse ≡ pulse (public s) e) →
     Changed (λ m. accept m e) s s′ →
     EventTold s e s′ t
 told-accepted {s} {s′} {e} {t} same none (isNumber, isRead, isOld, isPulse) done =
@@ -53,7 +53,7 @@ told-accepted {s} {s′} {e} {t} same none (isNumber, isRead, isOld, isPulse) do
 -- one that reads and pulses nothing
 told-quiet : {s s′ : List ℕ} {e : Event} {t : Told} {n : ℕ} → n ≡ refusal (public s) e → n ≡ 0 →
     Quiet t n →
-    (0 ≡ byteRead (public s) (e .kind)) × (0 ≡ oldMark (public s) (e .kind)) × (0 ≡ pulse e) →
+    (0 ≡ byteRead (public s) (e .kind)) × (0 ≡ oldMark (public s) (e .kind)) × (0 ≡ pulse (public s) e) →
     Changed (λ m. accept m e) s s′ →
     EventTold s e s′ t
 told-quiet same none (isNumber, isRead, isOld, isPulse) (noRead, noOld, noPulse) done =
@@ -65,7 +65,7 @@ told-kind told same = rw same told
 
 -- ---- one of the kinds 4 to 8, where an accepted one and a refused one meet before the answer
 module _ {s after : List ℕ} {e : Event} {t : Told} {n : ℕ} (checked : n ≡ refusal (public s) e) (told : Quiet t n) where
-  pub met-accepted : {s′ : List ℕ} → n ≡ 0 → (0 ≡ byteRead (public s) (e .kind)) × (0 ≡ oldMark (public s) (e .kind)) × (0 ≡ pulse e) →
+  pub met-accepted : {s′ : List ℕ} → n ≡ 0 → (0 ≡ byteRead (public s) (e .kind)) × (0 ≡ oldMark (public s) (e .kind)) × (0 ≡ pulse (public s) e) →
       Changed (λ m. accept m e) s s′ →
       after ≡ s′ →
       EventTold s e after t
@@ -91,11 +91,11 @@ module _ {s : List ℕ} {low high n : ℕ} where
       (by-rule done (sym (accept-data (view s) e refl ∙ ap (λ (v : ℕ). writeData v (view s)) byte)))
 
   pub told-command : {s′ : List ℕ} {t : Told} → n ≡ refusal (public s) (event 3 low high) → n ≡ 0 →
-      (t .refusal ≡ 0) × (t .read ≡ 0) × (t .old ≡ 0) × (t .pulse ≡ pulseOf low) →
+      (t .refusal ≡ 0) × (t .read ≡ 0) × (t .old ≡ 0) × (t .pulse ≡ pulseOf (public s .settings) low) →
       Changed (writeCommand low) s s′ →
       EventTold s (event 3 low high) s′ t
   told-command same none (isNumber, isRead, isOld, isPulse) done =
       let e = event 3 low high in
       let byte : value e ≡ low = value-byte (public s) e (sym same ∙ none) refl in
-      told-accepted same none (isNumber, isRead, isOld, isPulse ∙ ap pulseOf (sym byte))
+      told-accepted same none (isNumber, isRead, isOld, isPulse ∙ ap (pulseOf (public s .settings)) (sym byte))
       (by-rule done (sym (accept-command (view s) e refl ∙ ap (λ (v : ℕ). writeCommand v (view s)) byte)))

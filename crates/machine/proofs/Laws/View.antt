@@ -1,6 +1,6 @@
 -- What the program's stores do to the machine that its bytes stand for. Assumes nothing.
 use mathlib.Core.Path.{_≡_, refl, _∙_, ap, ap₂, sym, subst}
-use mathlib.Core.Bool.{false}
+use mathlib.Core.Bool.{Bool, false}
 use mathlib.Core.List.{List, [], _∷_, _++_}
 use Prim.Native.Nat.{ℕ, zero, suc, _+_, _-_, _≤_, _<_}
 use native.Mathlib.Omega.{arith}
@@ -8,9 +8,10 @@ use lib.ListN.{length, take, drop, getD, set, length-take, length-set}
 use lib.Seq.{take-set-le, take-set-lt, drop-set-lt, drop-set-add, drop-cons, set-out, getD-set-other}
 use Rattle.machine.proofs.Laws.Code.{code-append, code-long}
 use Rattle.machine.proofs.Laws.Lists.{listed, front}
-use Rattle.machine.specs.State.{Public, Machine, lift, withOutput, withHost, withRam}
+use Rattle.translation.specs.Bits.{has}
+use Rattle.machine.specs.State.{Public, Machine, lift, withOutput, withErrors, withHost, withPorts, withRam}
 use Rattle.machine.specs.Lines.{withMode}
-use Rattle.machine.specs.DataPort.{settled, send, latched, dropped, appended}
+use Rattle.machine.specs.DataPort.{settled, send, dropped, appended}
 use Rattle.machine.specs.Commands.{overlaid}
 use Rattle.machine.specs.Frames.{positioned, pinned}
 use Rattle.machine.specs.Flags.{Flags, flagsOf}
@@ -24,8 +25,30 @@ shown s = listed 0 12 s ++ drop 12 s
 pub set-pins : (s : List ℕ) → length s ≡ stateLength → (v : ℕ) → view (set s 2 v) ≡ lift (pinned v) (view s)
 set-pins s long v = front 12 (λ s. view (set s 2 v) ≡ lift (pinned v) (view s)) s (omega arith) refl
 
-pub set-latches : (s : List ℕ) → length s ≡ stateLength → (v : ℕ) → view (set s 3 v) ≡ lift (latched v) (view s)
-set-latches s long v = front 12 (λ s. view (set s 3 v) ≡ lift (latched v) (view s)) s (omega arith) refl
+-- the latches of P20 and P21
+abbrev pub lowLatched : ℕ → Public → Public
+lowLatched v p =
+    let q = p .ports in
+    withPorts p (record { pins = q .pins; p20 = has v 0; p21 = has v 1; p22 = q .p22; p23 = q .p23; p25 = q .p25 })
+
+pub set-latches : (s : List ℕ) → length s ≡ stateLength → (v : ℕ) → view (set s 3 v) ≡ lift (lowLatched v) (view s)
+set-latches s long v = front 12 (λ s. view (set s 3 v) ≡ lift (lowLatched v) (view s)) s (omega arith) refl
+
+-- those of P22, P23 and P25
+abbrev pub highLatched : ℕ → Public → Public
+highLatched v p =
+    let q = p .ports in
+    withPorts p (record { pins = q .pins; p20 = q .p20; p21 = q .p21; p22 = has v 0; p23 = has v 1; p25 = has v 3 })
+
+pub set-highLatches : (s : List ℕ) → length s ≡ stateLength → (v : ℕ) → view (set s 62 v) ≡ lift (highLatched v) (view s)
+set-highLatches s long v = front 64 (λ s. view (set s 62 v) ≡ lift (highLatched v) (view s)) s (omega arith) refl
+
+-- the transmit time-out
+abbrev pub timeoutSet : Bool → Public → Public
+timeoutSet b p = withErrors p (record { terr = p .errors .terr; perr = p .errors .perr; ttim = b })
+
+pub set-timeout : (s : List ℕ) → length s ≡ stateLength → (v : ℕ) → view (set s 63 v) ≡ lift (timeoutSet (has v 0)) (view s)
+set-timeout s long v = front 64 (λ s. view (set s 63 v) ≡ lift (timeoutSet (has v 0)) (view s)) s (omega arith) refl
 
 pub set-settled : (s : List ℕ) → length s ≡ stateLength → view (set (set s 4 0) 5 0) ≡ lift settled (view s)
 set-settled s long = front 12 (λ s. view (set (set s 4 0) 5 0) ≡ lift settled (view s)) s (omega arith) refl
@@ -60,7 +83,7 @@ flagged x m =
     record {
       plain = record {
         output = record { byte = m .plain .output .byte; full = x .full; mouse = x .mouse };
-        errors = record { terr = x .terr; perr = x .perr };
+        errors = record { terr = x .terr; perr = x .perr; ttim = m .plain .errors .ttim };
         host = record {
           command = x .command;
           pending = m .plain .host .pending;
@@ -104,7 +127,12 @@ set-beside s long k v h cells =
     let rest = drop 12 s in
     front 12 (λ t. seen (set t (28 + k) v) ≡ seen t) s (omega arith)
     (ap (λ (i : ℕ). seen (set (shown s) i v)) far ∙ ap seen (set-later (listed 0 12 s) rest (16 + k) v)
-    ∙ rw (take-set-le 16 rest (16 + k) v (omega arith), getD-set-other rest (16 + k) 48 v 0 (λ e. omega arith)) refl)
+    ∙ rw (
+      take-set-le 16 rest (16 + k) v (omega arith),
+      getD-set-other rest (16 + k) 48 v 0 (λ e. omega arith),
+      getD-set-other rest (16 + k) 50 v 0 (λ e. omega arith),
+      getD-set-other rest (16 + k) 51 v 0 (λ e. omega arith),
+    ) refl)
 
 -- a cell of the RAM; cell 0 is the mode byte
 pub set-cell : (s : List ℕ) → length s ≡ stateLength → (k v : ℕ) → k < 32 → view (set s (28 + k) v) ≡ lift (λ p. withRam p (set (p .ram) k v)) (view s)
@@ -134,6 +162,8 @@ set-appended s long v =
       drop-set-lt 17 rest n v (omega arith),
       getD-set-other rest n 16 v 0 (others h 16 (omega arith)),
       getD-set-other rest n 48 v 0 (others h 48 (omega arith)),
+      getD-set-other rest n 50 v 0 (others h 50 (omega arith)),
+      getD-set-other rest n 51 v 0 (others h 51 (omega arith)),
       code-append n (take 16 rest) (code-long s long) h v,
     ) refl)
 

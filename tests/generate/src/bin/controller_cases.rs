@@ -71,7 +71,12 @@ pub fn case(name: &[u8], events: &[u8]) {
 
 /// The same with the mouse lock on.
 pub fn locked_case(name: &[u8], events: &[u8]) {
-    case_under(Settings { mouse_lock: true }, name, events);
+    case_under(Settings::MOUSE_LOCK, name, events);
+}
+
+/// The same in AT mode.
+pub fn at_case(name: &[u8], events: &[u8]) {
+    case_under(Settings::AT_MODE, name, events);
 }
 
 fn case_under(settings: Settings, name: &[u8], events: &[u8]) {
@@ -93,4 +98,5 @@ fn main() {
     cases::frames();
     cases::mouse_lock();
     cases::noise();
+    cases::at_mode();
 }

@@ -3,6 +3,11 @@
 
 use model::{Controller, Settings, frame};
 
+/// AT mode, without and with the mouse lock.
+pub const IN_AT_MODE: [Settings; 2] = [Settings::AT_MODE, Settings::AT_MODE_AND_MOUSE_LOCK];
+/// PS/2 mode, likewise.
+pub const IN_PS2_MODE: [Settings; 2] = [Settings::ORDINARY, Settings::MOUSE_LOCK];
+
 pub struct Host {
     pub state: Controller,
 }
@@ -37,6 +42,7 @@ impl Host {
         Host::ready_under(Settings::ORDINARY)
     }
 
+    /// The same with the given settings; in AT mode the mouse stays off.
     pub fn ready_under(settings: Settings) -> Host {
         let mut host = Host::started(settings);
         host.command(0xAE);
@@ -152,7 +158,7 @@ impl Host {
         self.assert_noise_is_answered(kind, 5);
     }
 
-    fn assert_noise_is_answered(&mut self, kind: u8, refusal: u8) {
+    pub fn assert_noise_is_answered(&mut self, kind: u8, refusal: u8) {
         let before = self.state.clone();
         let mut expected = before.lines();
         expected[0] = refusal;

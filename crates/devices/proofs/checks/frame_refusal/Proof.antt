@@ -23,23 +23,37 @@ returns c =
 
 returns-2 : tie.Need-returns-2
 returns-2 c =
-    let full = c .before .before in
-    let e = full .before .before .before .args in
-    simp (
-      le-ltb 2047 (valueOf (e .low) (e .high)) (omega arith),
-      simp (full .output-full .ensures, c .before .input-full .ensures) at (c .if2 .taken),
-    )
+    let e = c .before .before .before .args in
+    simp (le-ltb 2047 (valueOf (e .low) (e .high)) (omega arith), c .if2 .taken)
 
 returns-3 : tie.Need-returns-3
 returns-3 c =
     let full = c .before .before in
-    let e = full .before .before .before .args in
+    let e = full .before .before .before .before .args in
     simp (
       le-ltb 2047 (valueOf (e .low) (e .high)) (omega arith),
-      simp (full .output-full .ensures, c .before .input-full .ensures) at (c .if2 .left),
+      full .before .if2 .left,
+      simp (full .output-full .ensures, c .before .input-full .ensures) at (c .if3 .taken),
+    )
+
+returns-4 : tie.Need-returns-4
+returns-4 c =
+    let full = c .before .before in
+    let e = full .before .before .before .before .args in
+    simp (
+      le-ltb 2047 (valueOf (e .low) (e .high)) (omega arith),
+      full .before .if2 .left,
+      simp (full .output-full .ensures, c .before .input-full .ensures) at (c .if3 .left),
     )
 
 pub frame-refusal-spec : {M : Type 1} → statement M
 frame-refusal-spec =
     tie.close
-    (tie.spec value-requires output-full-requires input-full-requires returns returns-2 returns-3)
+    (tie.spec
+    value-requires
+    output-full-requires
+    input-full-requires
+    returns
+    returns-2
+    returns-3
+    returns-4)

@@ -1,4 +1,4 @@
--- `devices::errors::set_errors` meets its contract. The store is the law's.
+-- `devices::errors::set_errors` meets its contract. The stores are the law's.
 -- Assumes nothing.
 use borrow.Author.Needs.{needs}
 use Rattle.machine.proofs.Laws.Changed.{stored-errors}
@@ -17,10 +17,19 @@ with-errors-requires c κs = search needs
 element-write-s : tie.Need-element-write-s
 element-write-s c = search needs
 
+element-write-s-2 : tie.Need-element-write-s-2
+element-write-s-2 c = search needs
+
 returns : tie.Need-returns
 returns c = stored-errors (search needs) (c .with-errors .ensures)
 
 pub set-errors-spec : {M : Type 1} → statement M
 set-errors-spec =
     tie.close
-    (tie.spec sized-requires element-copy-out-flags with-errors-requires element-write-s returns)
+    (tie.spec
+    sized-requires
+    element-copy-out-flags
+    with-errors-requires
+    element-write-s
+    element-write-s-2
+    returns)

@@ -12,8 +12,8 @@ element-copy-out-to c = search needs
 stop-sending-requires : tie.Need-stop-sending-requires
 stop-sending-requires c κs = search needs
 
-set-errors-requires : tie.Need-set-errors-requires
-set-errors-requires c κs = search needs
+note-not-taken-requires : tie.Need-note-not-taken-requires
+note-not-taken-requires c κs = search needs
 
 put-mouse-requires : tie.Need-put-mouse-requires
 put-mouse-requires c κs = search needs
@@ -33,7 +33,7 @@ timed-out-spec =
     (tie.spec
     element-copy-out-to
     stop-sending-requires
-    set-errors-requires
+    note-not-taken-requires
     put-mouse-requires
     put-requires
     returns

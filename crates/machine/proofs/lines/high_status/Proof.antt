@@ -20,11 +20,8 @@ mul-result c = search needs
 element-copy-out-upper : tie.Need-element-copy-out-upper
 element-copy-out-upper c = search needs
 
-output-full-requires : tie.Need-output-full-requires
-output-full-requires c κs = search needs
-
-from-mouse-requires : tie.Need-from-mouse-requires
-from-mouse-requires c κs = search needs
+status-bit-5-requires : tie.Need-status-bit-5-requires
+status-bit-5-requires c κs = search needs
 
 element-copy-out-upper-2 : tie.Need-element-copy-out-upper-2
 element-copy-out-upper-2 c = search needs
@@ -50,8 +47,7 @@ high-status-spec =
     element-copy-out-result
     mul-result
     element-copy-out-upper
-    output-full-requires
-    from-mouse-requires
+    status-bit-5-requires
     element-copy-out-upper-2
     element-copy-out-upper-3
     upper-requires

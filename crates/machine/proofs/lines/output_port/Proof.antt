@@ -1,51 +1,25 @@
--- `machine::lines::output_port` meets its contract. It is the sum that the definition has, each callee's result put in.
+-- `machine::lines::output_port` meets its contract. The mode's test picks the case of the definition.
 -- Assumes nothing.
 use borrow.Author.Needs.{needs}
-use Rattle.machine.proofs.Laws.Lines.{outputPort-sum}
+use Rattle.machine.proofs.Laws.Lines.{outputPort-at, outputPort-ps2}
 use Rattle.machine.proofs.lines.output_port.Statement.{statement}
 use Rattle.machine.proofs.lines.output_port.Tie as tie
 
-element-copy-out-nibble : tie.Need-element-copy-out-nibble
-element-copy-out-nibble c = search needs
+at-mode-requires : tie.Need-at-mode-requires
+at-mode-requires c κs = search needs
 
-element-copy-out-nibble-2 : tie.Need-element-copy-out-nibble-2
-element-copy-out-nibble-2 c = search needs
+at-port-requires : tie.Need-at-port-requires
+at-port-requires c κs = search needs
 
-mouse-off-requires : tie.Need-mouse-off-requires
-mouse-off-requires c κs = search needs
-
-nibble-requires : tie.Need-nibble-requires
-nibble-requires c κs = search needs
-
-requests-requires : tie.Need-requests-requires
-requests-requires c κs = search needs
-
-add-result : tie.Need-add-result
-add-result c = search needs
-
-keyboard-off-requires : tie.Need-keyboard-off-requires
-keyboard-off-requires c κs = search needs
-
-weight-requires : tie.Need-weight-requires
-weight-requires c κs = search needs
-
-add-result-2 : tie.Need-add-result-2
-add-result-2 c = search needs
+ps2-port-requires : tie.Need-ps2-port-requires
+ps2-port-requires c κs = search needs
 
 returns : tie.Need-returns
-returns c = search outputPort-sum
+returns c = search outputPort-at
+
+returns-2 : tie.Need-returns-2
+returns-2 c = search outputPort-ps2
 
 pub output-port-spec : {M : Type 1} → statement M
 output-port-spec =
-    tie.close
-    (tie.spec
-    element-copy-out-nibble
-    element-copy-out-nibble-2
-    mouse-off-requires
-    nibble-requires
-    requests-requires
-    add-result
-    keyboard-off-requires
-    weight-requires
-    add-result-2
-    returns)
+    tie.close (tie.spec at-mode-requires at-port-requires ps2-port-requires returns returns-2)

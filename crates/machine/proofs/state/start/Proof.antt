@@ -20,6 +20,9 @@ options-of-requires c κs = search needs
 array-write-s-4 : tie.Need-array-write-s-4
 array-write-s-4 c = search needs
 
+array-write-s-5 : tie.Need-array-write-s-5
+array-write-s-5 c = search needs
+
 returns : tie.Need-returns
 returns c = fresh-started _ (c .options-of .ensures)
 
@@ -32,4 +35,5 @@ start-spec =
     array-write-s-3
     options-of-requires
     array-write-s-4
+    array-write-s-5
     returns)

@@ -5,9 +5,6 @@ use Rattle.machine.proofs.Laws.Told.{told-refused, told-command}
 use Rattle.ports.proofs.commands.command_event.Statement.{statement}
 use Rattle.ports.proofs.commands.command_event.Tie as tie
 
--- `ports::commands::command_event` meets its contract. A refused write tells its number; an accepted one acts, and tells the lines pulsed.
--- Assumes nothing.
-
 write-refusal-requires : tie.Need-write-refusal-requires
 write-refusal-requires c κs = search needs
 
@@ -17,11 +14,11 @@ quiet-requires c κs = search needs
 returns : tie.Need-returns
 returns c = search told-refused
 
-write-command-requires : tie.Need-write-command-requires
-write-command-requires c κs = search needs
-
 pulse-of-requires : tie.Need-pulse-of-requires
 pulse-of-requires c κs = search needs
+
+write-command-requires : tie.Need-write-command-requires
+write-command-requires c κs = search needs
 
 returns-2 : tie.Need-returns-2
 returns-2 c = search told-command
@@ -33,6 +30,6 @@ command-event-spec =
     write-refusal-requires
     quiet-requires
     returns
-    write-command-requires
     pulse-of-requires
+    write-command-requires
     returns-2)

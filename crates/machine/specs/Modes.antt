@@ -1,0 +1,62 @@
+-- Document 02, W3: what is true of the two modes. In PS/2 mode each rule that looks at the mode is document 01's, and what AT mode adds to the
+-- state stays as it is. In AT mode a machine from fresh never has what that mode left out.
+use Prim.Native.Nat.{ℕ, _+_, _*_, _%_}
+use mathlib.Core.List.{[]}
+use mathlib.Core.Path.{_≡_}
+use mathlib.Core.Bool.{Bool, true, false, cond, not, _&&_}
+use lib.Dec.{leb}
+use Rattle.translation.specs.Bits.{has}
+use Rattle.machine.specs.State.{Public, Machine, withErrors, withPorts, lift}
+use Rattle.machine.specs.Lines.{nibble, keySwitch, inputFull, keyboardOff, mouseOff, keyboardRequest, mouseRequest, highNibble, outputPort}
+use Rattle.machine.specs.DataPort.{latched}
+use Rattle.machine.specs.Commands.{commandWritten, loadCut, acts, writeCommand, testInputs, pulseOf}
+use Rattle.machine.specs.Frames.{errorsSet, notTaken}
+use Rattle.machine.specs.Events.{isWrite, isFrame, endsSending, noRoom, stateRefusal}
+
+pub record Ps2Rules (m : Machine) : Type 0 where
+  -- the status' bits 4-7, and P2
+  pub status : highNibble (m .plain) ≡
+      cond (m .plain .host .overlay) (m .plain .host .nibble % 16)
+      (nibble (keySwitch (m .plain)) (m .plain .output .full && m .plain .output .mouse) (m .plain .errors .terr) (m .plain .errors .perr))
+  pub port : outputPort (m .plain) ≡
+      nibble (m .plain .ports .p20) (m .plain .ports .p21) false (mouseOff (m .plain))
+      + 16 * nibble (keyboardRequest (m .plain)) (mouseRequest (m .plain)) (keyboardOff (m .plain)) false
+  -- every command acts as itself
+  pub command : (c : ℕ) → writeCommand c m ≡ acts c (lift (commandWritten c) (loadCut m))
+  -- D1h, E0h, F0h-FFh
+  pub latches : (v : ℕ) → latched v (m .plain) ≡
+      withPorts (m .plain)
+      (record {
+        pins = m .plain .ports .pins;
+        p20 = has v 0;
+        p21 = has v 1;
+        p22 = m .plain .ports .p22;
+        p23 = m .plain .ports .p23;
+        p25 = m .plain .ports .p25;
+      })
+  pub inputs : testInputs (m .plain) ≡ nibble (not (keyboardOff (m .plain))) (not (mouseOff (m .plain))) false false
+  pub pulses : (c : ℕ) → pulseOf (m .plain .settings) c ≡ cond (leb 0xF0 c) (nibble (not (has c 0)) (not (has c 1)) false false) 0
+  -- TERR and PERR after a frame or a byte that was taken, and after one that was not
+  pub errors : (t e : Bool) → errorsSet t e (m .plain) ≡ withErrors (m .plain) (record { terr = t; perr = e; ttim = m .plain .errors .ttim })
+  pub timeout : notTaken (m .plain) ≡ withErrors (m .plain) (record { terr = true; perr = false; ttim = m .plain .errors .ttim })
+  -- checks 3 to 6
+  pub checks : (k : ℕ) → stateRefusal (m .plain) k ≡
+      cond (isWrite k && inputFull (m .plain)) 3
+      (cond (isWrite k && m .plain .locked) 4
+      (cond (isFrame k && noRoom (m .plain) k) 5 (cond (endsSending k && not (inputFull (m .plain))) 6 0)))
+
+-- The pending codes of AT mode: not those of a load, of the output buffer, of a byte to the mouse.
+abbrev pub AtCode : ℕ → Type 0
+AtCode n = (n ≡ 3 → ⊥) × (n ≡ 5 → ⊥) × (n ≡ 6 → ⊥) × (n ≡ 7 → ⊥)
+
+-- Not locked, no byte from the mouse or for it, no overlay; and no lock code.
+pub record AtPublic (p : Public) : Type 0 where
+  pub locked : p .locked ≡ false
+  pub mouse : p .output .mouse ≡ false
+  pub to : p .sending .to ≡ 2 → ⊥
+  pub overlay : p .host .overlay ≡ false
+  pub pending : AtCode (p .host .pending)
+
+pub record AtMachine (m : Machine) : Type 0 where
+  pub plain : AtPublic (m .plain)
+  pub code : m .secret .code ≡ []
