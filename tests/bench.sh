@@ -1,7 +1,8 @@
 #!/bin/sh
 # Counts the instructions that one event costs, in the library and in the
-# model, with both in the same process. The row `events` has one call an event,
-# the others one call a list. Needs valgrind.
+# model, with both in the same process. The row `events` has one call an event;
+# `judge`, `judge-all` and `frame` count the calls of one small function; the
+# others have one call a list. Needs valgrind.
 set -eu
 cd "$(dirname "$0")"
 cargo build --quiet --release --package bench
@@ -18,16 +19,18 @@ inclusive() {
 }
 
 printf '%-10s %8s %18s %16s %7s\n' case events 'library per event' 'model per event' ratio
-for name in mix-1 mix-70 mix-700 mix-7000 tries refused events; do
+for name in mix-1 mix-70 mix-700 mix-7000 tries refused events judge judge-all frame; do
     case $name in
-    events) suffix=_event ;;
-    *) suffix= ;;
+    events) library=measured_library_event model=measured_model_event ;;
+    judge*) library=calugnid_judge model=measured_model_judge ;;
+    frame) library=calugnid_frame model=measured_model_frame ;;
+    *) library=measured_library model=measured_model ;;
     esac
     events=$(valgrind --quiet --tool=callgrind --compress-strings=no --compress-pos=no \
         --callgrind-out-file="$work/profile" "$program" "$name")
     awk -v name="$name" -v events="$events" \
-        -v library="$(inclusive "measured_library$suffix")" \
-        -v model="$(inclusive "measured_model$suffix")" '
+        -v library="$(inclusive "$library")" \
+        -v model="$(inclusive "$model")" '
         BEGIN {
             if (library == 0 || model == 0) { print name ": no calls seen"; exit 1 }
             printf "%-10s %8d %18.1f %16.1f %7.2f\n",

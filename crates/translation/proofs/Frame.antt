@@ -74,6 +74,12 @@ check-one f =
     (λ o. let odd : ones f % 2 ≡ 1 = eqb-true _ _ o in inl (check-odd f framed odd, framed, odd))
     (λ o. let even : ones f % 2 ≡ 0 = omega (arith, eqb-false (ones f % 2) 1 o) in inr (inl (check-even f framed even, framed, even)))
 
+-- what is neither framed nor noise
+pub check-unframed : (f : ℕ) → (Framed f → ⊥) → (FalseStart f → ⊥) → check f ≡ broken
+check-unframed f unframed started =
+    ⊎-elim (λ s. absurd (unframed (s .1))) (⊎-elim (λ p. absurd (unframed (p .1))) (⊎-elim (λ b. b .0) (λ n. absurd (started (n .1)))))
+    (check-one f)
+
 -- frame
 
 pub frame-below : (b : ℕ) → b < 256 → frame b < 2048

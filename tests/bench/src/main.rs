@@ -2,8 +2,9 @@
 //!
 //! `bench CASE` prints the number of events run by each of the two, for a
 //! profiler around it to divide by. `bench events` does so with one call an
-//! event. `bench stack WHO` makes a single run. All of them are under the
-//! ordinary settings.
+//! event; `bench judge`, `bench judge-all` and `bench frame` print the number
+//! of calls to judge a frame or to frame a byte. `bench stack WHO` makes a
+//! single run. Runs are under the ordinary settings.
 
 mod cases;
 mod measured;
@@ -15,6 +16,13 @@ use std::process::ExitCode;
 
 /// Events run in all, so that a list of one is repeated the most.
 const TOTAL_EVENTS: usize = 28_000;
+
+/// Frames judged or bytes framed in all: each of 2,048 numbers as often as the
+/// others.
+const CALLS: usize = 14 * FRAMES as usize;
+
+/// How many numbers have eleven bits.
+const FRAMES: u16 = 2048;
 
 fn profile(case: &Case) {
     case.check();
@@ -45,6 +53,24 @@ fn profile_events(case: &Case) {
     println!("{}", case.list.len() / 3);
 }
 
+/// Frames judged: those of every byte, or all numbers of eleven bits.
+fn profile_judging(frames: &[u16]) {
+    for &frame in frames.iter().cycle().take(CALLS) {
+        let by_library = panel::judge(frame);
+        assert_eq!(by_library, measured::measured_model_judge(frame));
+    }
+    println!("{CALLS}");
+}
+
+/// Every byte framed.
+fn profile_framing() {
+    for byte in (0..=u8::MAX).cycle().take(CALLS) {
+        let by_library = panel::frame(byte);
+        assert_eq!(by_library, measured::measured_model_frame(byte));
+    }
+    println!("{CALLS}");
+}
+
 /// One full list on the main thread, whose stack the caller has limited.
 fn use_stack(who: &str) {
     let list = cases::mix(7_000).list;
@@ -63,6 +89,9 @@ fn main() -> ExitCode {
     match words[..] {
         ["stack", who] => use_stack(who),
         ["events"] => profile_events(&cases::mix(7_000)),
+        ["judge"] => profile_judging(&(0..=u8::MAX).map(model::frame).collect::<Vec<_>>()),
+        ["judge-all"] => profile_judging(&(0..FRAMES).collect::<Vec<_>>()),
+        ["frame"] => profile_framing(),
         [name] => match cases::by_name(name) {
             Some(case) => profile(&case),
             None => return ExitCode::FAILURE,

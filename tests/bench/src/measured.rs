@@ -1,9 +1,11 @@
 //! The calls that the profiler looks for by name.
 //!
-//! Each does something after its inner call, so that none becomes a jump and
-//! the cost of the callee stays inside.
+//! Each that calls the library does something after its inner call, so that
+//! none becomes a jump and the cost of the callee stays inside. Judging and
+//! framing in the library are looked for by their C names, so only the model
+//! has functions for them here.
 
-use model::{Controller, Settings};
+use model::{Controller, Settings, Verdict};
 use panel::{Answer, State};
 use std::hint::black_box;
 
@@ -31,4 +33,22 @@ pub fn measured_library_event(state: &mut State, kind: u8, value: u16, answer: &
 pub fn measured_model_event(state: &mut Controller, kind: u8, value: u16, answer: &mut Answer) {
     *answer = state.event(kind, value);
     black_box(());
+}
+
+/// The verdict as the number that the library gives.
+#[inline(never)]
+#[unsafe(no_mangle)]
+pub fn measured_model_judge(frame: u16) -> u16 {
+    match model::judge(frame) {
+        Verdict::Sound(byte) => u16::from(byte),
+        Verdict::WrongParity => panel::WRONG_PARITY,
+        Verdict::Broken => panel::BROKEN,
+        Verdict::Noise => panel::NOISE,
+    }
+}
+
+#[inline(never)]
+#[unsafe(no_mangle)]
+pub fn measured_model_frame(byte: u8) -> u16 {
+    model::frame(byte)
 }

@@ -1,33 +1,38 @@
--- `frames::frame_of` meets its contract: it builds the number that the definition names, with what `count_ones` ensures.
+-- `frames::frame_of` meets its contract: with what `parity_of` ensures, antt computes it at each byte.
 -- Assumes nothing.
+use Prim.Native.Nat.{ℕ, _+_, _*_, _%_}
+use mathlib.Core.Path.{refl, ap, _∙_}
+use mathlib.Core.Bool.{Bool}
+use lib.Bits.{bitXor}
+use lib.Dec.{eqb}
 use borrow.Author.Needs.{needs}
-use Rattle.translation.specs.Frames.{frame}
+use borrow.Author.Tests.{eqb-true}
+use Rattle.translation.specs.Frames.{ones, frame}
+use Rattle.translation.proofs.Tests.{every-below}
 use Rattle.translation.proofs.frames.frame_of.Statement.{statement}
 use Rattle.translation.proofs.frames.frame_of.Tie as tie
+
+-- the byte with parity and stop bit set
+abbrev filled : ℕ → ℕ
+filled b = 2 * b + 0x600
+
+computed : ℕ → Bool
+computed b = eqb (bitXor (filled b) (512 * (ones (2 * b) % 2))) (frame b)
 
 mul-data : tie.Need-mul-data
 mul-data c = search needs
 
-count-ones-requires : tie.Need-count-ones-requires
-count-ones-requires c κs = search needs
-
-sub-result : tie.Need-sub-result
-sub-result c = search needs
-
-mul-result : tie.Need-mul-result
-mul-result c = search needs
-
 add-result : tie.Need-add-result
 add-result c = search needs
 
-add-result-2 : tie.Need-add-result-2
-add-result-2 c = search needs
+parity-of-requires : tie.Need-parity-of-requires
+parity-of-requires c κs = search needs
 
 returns : tie.Need-returns
-unfolding frame
-returns c = search needs
+unfolding computed frame ones
+returns c =
+    let b = c .before .args .byte in
+    ap (bitXor (filled b)) (c .parity-of .ensures) ∙ eqb-true _ _ (every-below computed 256 refl b (search needs))
 
 pub frame-of-spec : {M : Type 1} → statement M
-frame-of-spec =
-    tie.close
-    (tie.spec mul-data count-ones-requires sub-result mul-result add-result add-result-2 returns)
+frame-of-spec = tie.close (tie.spec mul-data add-result parity-of-requires returns)
