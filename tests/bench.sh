@@ -18,7 +18,7 @@ inclusive() {
         END { printf "%d\n", sum }' "$work/profile"
 }
 
-printf '%-10s %8s %18s %16s %7s\n' case events 'library per event' 'model per event' ratio
+printf '%-10s %8s %13s %11s %7s\n' case count 'library each' 'model each' ratio
 for name in mix-1 mix-70 mix-700 mix-7000 tries refused events judge judge-all frame; do
     case $name in
     events) library=measured_library_event model=measured_model_event ;;
@@ -33,7 +33,7 @@ for name in mix-1 mix-70 mix-700 mix-7000 tries refused events judge judge-all f
         -v model="$(inclusive "$model")" '
         BEGIN {
             if (library == 0 || model == 0) { print name ": no calls seen"; exit 1 }
-            printf "%-10s %8d %18.1f %16.1f %7.2f\n",
+            printf "%-10s %8d %13.1f %11.1f %7.2f\n",
                 name, events, library / events, model / events, library / model
         }'
 done

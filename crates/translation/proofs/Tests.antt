@@ -28,3 +28,7 @@ every-below f zero passed k h = absurd (not-suc-le-zero h)
 every-below f (suc n) passed k h =
     split (eqb k n) (λ e. subst (λ (m : ℕ). f m ≡ true) (sym (eqb-true k n e)) (and-true (f n) (every f n) passed .0))
     (λ e. every-below f n (and-true (f n) (every f n) passed .1) k (omega (arith, eqb-false k n e)))
+
+-- two functions that antt computes to the same at each number below n
+pub equal-below : (f g : ℕ → ℕ) (n : ℕ) → every (λ k. eqb (f k) (g k)) n ≡ true → (k : ℕ) → k < n → f k ≡ g k
+equal-below f g n passed k h = eqb-true (f k) (g k) (every-below (λ k. eqb (f k) (g k)) n passed k h)

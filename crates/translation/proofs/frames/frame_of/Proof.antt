@@ -2,22 +2,16 @@
 -- Assumes nothing.
 use Prim.Native.Nat.{ℕ, _+_, _*_, _%_}
 use mathlib.Core.Path.{refl, ap, _∙_}
-use mathlib.Core.Bool.{Bool}
 use lib.Bits.{bitXor}
-use lib.Dec.{eqb}
 use borrow.Author.Needs.{needs}
-use borrow.Author.Tests.{eqb-true}
 use Rattle.translation.specs.Frames.{ones, frame}
-use Rattle.translation.proofs.Tests.{every-below}
+use Rattle.translation.proofs.Tests.{equal-below}
 use Rattle.translation.proofs.frames.frame_of.Statement.{statement}
 use Rattle.translation.proofs.frames.frame_of.Tie as tie
 
 -- the byte with parity and stop bit set
 abbrev filled : ℕ → ℕ
 filled b = 2 * b + 0x600
-
-computed : ℕ → Bool
-computed b = eqb (bitXor (filled b) (512 * (ones (2 * b) % 2))) (frame b)
 
 mul-data : tie.Need-mul-data
 mul-data c = search needs
@@ -29,10 +23,11 @@ parity-of-requires : tie.Need-parity-of-requires
 parity-of-requires c κs = search needs
 
 returns : tie.Need-returns
-unfolding computed frame ones
+unfolding frame ones
 returns c =
     let b = c .before .args .byte in
-    ap (bitXor (filled b)) (c .parity-of .ensures) ∙ eqb-true _ _ (every-below computed 256 refl b (search needs))
+    ap (bitXor (filled b)) (c .parity-of .ensures)
+    ∙ equal-below (λ b. bitXor (filled b) (512 * (ones (2 * b) % 2))) frame 256 refl b (search needs)
 
 pub frame-of-spec : {M : Type 1} → statement M
 frame-of-spec = tie.close (tie.spec mul-data add-result parity-of-requires returns)

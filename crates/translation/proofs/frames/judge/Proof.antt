@@ -1,15 +1,14 @@
 -- `frames::judge` meets its contract: each return is a case of the check, with what the tests before it showed of the bits.
 -- Assumes nothing.
 use mathlib.Core.Path.{sym}
-use mathlib.Core.Logic.{inl}
 use native.Mathlib.Omega.{arith}
 use borrow.Author.Needs.{needs}
-use Rattle.translation.proofs.Frame.{check-odd, check-even, check-noise, check-broken, check-unframed}
+use Rattle.translation.proofs.Frame.{check-odd, check-even, check-noise, check-unframed}
 use Rattle.translation.proofs.frames.judge.Statement.{statement}
 use Rattle.translation.proofs.frames.judge.Tie as tie
 
 returns : tie.Need-returns
-returns c = sym (check-broken _ (inl (omega arith)))
+returns c = sym (check-unframed _ (λ f. omega arith) (λ s. omega arith))
 
 returns-2 : tie.Need-returns-2
 returns-2 c = sym (check-noise _ (omega arith, omega arith))
