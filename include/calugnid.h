@@ -32,6 +32,9 @@
  *   does not send it again. This holds for replies of the mouse too.
  * - A frame with a wrong start bit is noise. Feed it or drop it: the event
  *   changes nothing, refused or not, and the host sees nothing of it.
+ * - A lock closed by A6h opens at the key after which the last keys counted, as
+ *   many as the lock code is long, are the code, whatever was typed before. A
+ *   keyboard frame that is broken or has wrong parity starts the count afresh.
  */
 #ifndef CALUGNID_H
 #define CALUGNID_H
@@ -197,8 +200,9 @@ void calugnid_run_fitting(uint8_t *state, const uint8_t *list, size_t list_lengt
 uint8_t calugnid_save(const uint8_t *state, uint8_t *saved, size_t saved_length);
 
 /* Makes the controller of the image that stands at the end of `image`, with
- * the ordinary settings, whatever those of the state were. 0, 10 or 11;
- * refused, the state is as it was, its settings too. */
+ * the ordinary settings, whatever those of the state were. A locked one goes on
+ * as if as many of the code's first keys had just been typed as its position
+ * says. 0, 10 or 11; refused, the state is as it was, its settings too. */
 uint8_t calugnid_load(uint8_t *state, const uint8_t *image, size_t image_length);
 
 /* The lines with no event, as after a start or a load: an answer that holds 0

@@ -1,8 +1,9 @@
 #!/bin/sh
 # Counts the instructions that one event costs, in the library and in the
-# model, with both in the same process. The row `events` has one call an event;
-# `judge`, `judge-all` and `frame` count the calls of one small function; the
-# others have one call a list. Needs valgrind.
+# model, with both in the same process. The row `events` has one call an event,
+# `dearest` one event on copies of a state; `judge`, `judge-all` and `frame`
+# count the calls of one small function; the others have one call a list. Needs
+# valgrind.
 set -eu
 cd "$(dirname "$0")"
 cargo build --quiet --release --package bench
@@ -19,9 +20,9 @@ inclusive() {
 }
 
 printf '%-10s %8s %13s %11s %7s\n' case count 'library each' 'model each' ratio
-for name in mix-1 mix-70 mix-700 mix-7000 tries refused events judge judge-all frame; do
+for name in mix-1 mix-70 mix-700 mix-7000 tries slips dearest refused events judge judge-all frame; do
     case $name in
-    events) library=measured_library_event model=measured_model_event ;;
+    events|dearest) library=measured_library_event model=measured_model_event ;;
     judge*) library=calugnid_judge model=measured_model_judge ;;
     frame) library=calugnid_frame model=measured_model_frame ;;
     *) library=measured_library model=measured_model ;;

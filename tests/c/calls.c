@@ -363,24 +363,58 @@ static void try_noise_with_turned_switch(void)
     CHECK(noises_leave(state, CALUGNID_ACCEPTED));
 }
 
+/* A controller with both devices on, locked with this code, which ends in 00h. */
+static void start_locked(uint8_t *state, uint8_t options, const uint8_t *code, size_t length)
+{
+    calugnid_start(state, options);
+    CHECK(leaves(state, CALUGNID_WRITE_COMMAND, 0xAE, 0x18, 0x0B));
+    CHECK(leaves(state, CALUGNID_WRITE_COMMAND, 0xA8, 0x18, 0x03));
+    CHECK(leaves(state, CALUGNID_WRITE_COMMAND, 0xA5, 0x18, 0x03));
+    for (size_t i = 0; i < length; i++)
+        CHECK(leaves(state, CALUGNID_WRITE_DATA, code[i], 0x10, 0x03));
+    CHECK(leaves(state, CALUGNID_WRITE_COMMAND, 0xA6, 0x18, 0x03));
+}
+
+/* Whether a key is taken by the lock, and a write after it refused or not. */
+static bool typed(uint8_t *state, uint8_t key, uint8_t refusal)
+{
+    return leaves(state, CALUGNID_KEYBOARD_FRAME, calugnid_frame(key), 0x18, 0x03) &&
+           calugnid_refusal(state, CALUGNID_WRITE_COMMAND, 0xA4) == refusal;
+}
+
 /* In the middle of a lock code of two keys the first of them stays typed. */
 static void try_noise_while_locked(uint8_t options)
 {
     static const uint8_t code[] = {0x1E, 0x30, 0x00};
     uint8_t state[CALUGNID_STATE_BYTES];
 
-    calugnid_start(state, options);
-    CHECK(leaves(state, CALUGNID_WRITE_COMMAND, 0xAE, 0x18, 0x0B));
-    CHECK(leaves(state, CALUGNID_WRITE_COMMAND, 0xA8, 0x18, 0x03));
-    CHECK(leaves(state, CALUGNID_WRITE_COMMAND, 0xA5, 0x18, 0x03));
-    for (size_t i = 0; i < sizeof code; i++)
-        CHECK(leaves(state, CALUGNID_WRITE_DATA, code[i], 0x10, 0x03));
-    CHECK(leaves(state, CALUGNID_WRITE_COMMAND, 0xA6, 0x18, 0x03));
-    CHECK(leaves(state, CALUGNID_KEYBOARD_FRAME, calugnid_frame(0x1C), 0x18, 0x03));
+    start_locked(state, options, code, sizeof code);
+    CHECK(typed(state, 0x1C, CALUGNID_LOCKED));
     CHECK(noises_leave(state, CALUGNID_ACCEPTED));
-    CHECK(calugnid_refusal(state, CALUGNID_WRITE_COMMAND, 0xA4) == CALUGNID_LOCKED);
-    CHECK(leaves(state, CALUGNID_KEYBOARD_FRAME, calugnid_frame(0x32), 0x18, 0x03));
-    CHECK(calugnid_refusal(state, CALUGNID_WRITE_COMMAND, 0xA4) == CALUGNID_ACCEPTED);
+    CHECK(typed(state, 0x32, CALUGNID_ACCEPTED));
+}
+
+/* One key too many before the right code, with a save and a load between. A
+ * load gives the position, so it keeps as much of the code as was typed. */
+static void try_slips(uint8_t options)
+{
+    static const uint8_t code[] = {0x1E, 0x1E, 0x30, 0x00};
+    uint8_t state[CALUGNID_STATE_BYTES], other[CALUGNID_STATE_BYTES];
+    uint8_t image[CALUGNID_IMAGE_BYTES];
+
+    start_locked(state, options, code, sizeof code);
+    for (int i = 0; i < 3; i++)
+        CHECK(typed(state, 0x1C, CALUGNID_LOCKED));
+    CHECK(calugnid_save(state, image, sizeof image) == CALUGNID_ACCEPTED);
+    CHECK(calugnid_load(other, image, sizeof image) == CALUGNID_ACCEPTED);
+    CHECK(typed(state, 0x32, CALUGNID_ACCEPTED));
+    CHECK(typed(other, 0x32, CALUGNID_ACCEPTED));
+    start_locked(state, options, code, sizeof code);
+    CHECK(typed(state, 0x1C, CALUGNID_LOCKED));
+    CHECK(typed(state, 0x32, CALUGNID_LOCKED));
+    CHECK(typed(state, 0x1C, CALUGNID_LOCKED));
+    CHECK(typed(state, 0x1C, CALUGNID_LOCKED));
+    CHECK(typed(state, 0x32, CALUGNID_ACCEPTED));
 }
 
 /* In AT mode noise of the mouse is refused as every frame of it is. */
@@ -578,6 +612,7 @@ int main(void)
         }
         try_noise((uint8_t)options);
         try_noise_while_locked((uint8_t)options);
+        try_slips((uint8_t)options);
     }
     try_noise_with_turned_switch();
     try_numbers();

@@ -105,6 +105,35 @@ pub fn lock() {
     );
 }
 
+// Slips before the right code, which is 1Eh 1Eh 30h. The lock puts 99h as it opens.
+pub fn slips() {
+    case(
+        b"code 1Eh 1Eh 30h opens on 1Eh 1Eh 1Eh 30h",
+        b"03AE00 037400 019900 03A500 011E00 011E00 013000 010000 03A600 \
+        043804 043804 043804 046404 000000 03A400 000000",
+    );
+    case(
+        b"code 1Eh 1Eh 30h opens on 1Eh 30h 1Eh 1Eh 30h",
+        b"03AE00 037400 019900 03A500 011E00 011E00 013000 010000 03A600 \
+        043804 046404 043804 043804 046404 000000 03A400 000000",
+    );
+    case(
+        b"counting starts afresh after a damaged frame, not after noise",
+        b"03AE00 037400 019900 03A500 011E00 011E00 013000 010000 03A600 \
+        043804 043804 043806 046404 043804 043804 043800 046404 043804 043804 043904 046404 000000",
+    );
+    case(
+        b"releases and the key in cell 16h do not count",
+        b"03AE00 037400 019900 037600 012A00 03A500 011E00 011E00 013000 010000 03A600 \
+        043804 04E007 043804 042406 043804 04E007 043804 043804 042406 046404 000000",
+    );
+    case(
+        b"locking anew starts with no key",
+        b"03AE00 037400 019900 03A500 011E00 011E00 013000 010000 03A600 043804 043804 046404 000000 \
+        03A600 046404 043804 046404 020000 043804 043804 046404 000000",
+    );
+}
+
 // Bytes sent to a device and frames that come from it.
 pub fn frames() {
     case(

@@ -221,6 +221,7 @@ fn main() {
     cases::reads();
     cases::loads();
     cases::lock();
+    cases::slips();
     cases::frames();
     cases::mouse_lock();
     cases::noise();

@@ -1,4 +1,4 @@
-// Keys typed while locked: how far the lock code has been typed, and the lock that opens at its end.
+// Keys typed while locked: the longest beginning of the lock code that they end with, and the lock that opens when that is the code.
 use machine::flags::with_locked;
 use machine::lines::cell;
 use machine::lines::put_cell;
@@ -9,11 +9,12 @@ use machine::state::State;
 use machine::state::code_length;
 use machine::state::sized;
 ghost use mathlib.Core.Path.{_≡_};
-ghost use mathlib.Core.Bool.{true};
-ghost use Prim.Native.Nat.{_<_};
-ghost use lib.ListN.{getD};
+ghost use mathlib.Core.List.{_∷_};
+ghost use Prim.Native.Nat.{_≤_};
+ghost use lib.ListN.{length, take};
+ghost use Rattle.machine.specs.Lock as lock;
 ghost use Rattle.machine.specs.Frames as frame;
-ghost use Rattle.machine.specs.View.{public, view};
+ghost use Rattle.machine.specs.View.{public, codeOf, view};
 ghost use Rattle.machine.specs.Changed.{Changed};
 
 pub(crate) fn set_position(s: &mut State, k: u8)
@@ -30,28 +31,58 @@ fn ignored(s: &State, x: u8) -> bool
     (x / 128 % 2 == 1) | ((x == cell(s, 0x16)) | (x == cell(s, 0x17)))
 }
 
-// The byte is the one of the code at the position.
-fn matches(s: &State, x: u8) -> bool
-    ensures { λ r. ⌜ (r ≡ frame.matches x (view (now (s .entry)))) × (r ≡ true → getD (now (s .entry)) 11 0 < 16) ⌝ }
+// The code's first k bytes end with its first n.
+fn repeats(s: &State, k: usize, n: usize) -> bool
+    requires { ⌜ (n ≤ k) × (k ≤ length (codeOf (now s))) × (k ≤ 16) ⌝ }
+    ensures { λ r. ⌜ (let code = codeOf (now (s .entry)) in r ≡ lock.endWith (lock.begun code k) (take n code)) ⌝ }
+{
+    sized(*s);
+    let by = k - n;
+    let mut left = n;
+    while 0 < left {
+        left -= 1;
+        if s[CODE + left] != s[CODE + (by + left)] {
+            return false;
+        }
+    }
+    true
+}
+
+// The longest beginning of the code, of at most k bytes, that its first k bytes and then x end with. Searched from the longest down:
+// that takes no memory, and most are ruled out by x alone.
+fn fall_back(s: &State, x: u8, k: usize) -> usize
+    requires { ⌜ (k ≤ length (codeOf (now s))) × (k ≤ 16) ⌝ }
+    ensures { λ r. ⌜ (let code = codeOf (now (s .entry)) in r ≡ lock.longest code k (x ∷ lock.begun code k)) × (r ≤ k) ⌝ }
+{
+    sized(*s);
+    let mut n = k;
+    while 0 < n {
+        let last = n - 1;
+        if x == s[CODE + last] {
+            if repeats(s, k, last) {
+                return n;
+            }
+        }
+        n = last;
+    }
+    0
+}
+
+// The longest beginning of the code, the whole of it too, that the keys counted and then x end with.
+fn reach(s: &State, x: u8) -> usize
+    ensures { λ r. ⌜ (let m = view (now (s .entry)) in r ≡ lock.longest (m .secret .code) (length (m .secret .code)) (x ∷ frame.keys m)) × (r ≤ 16) ⌝ }
 {
     sized(*s);
     let n = code_length(s);
-    let k = s[POSITION];
-    if k < n {
-        let at = CODE + (k as usize);
-        x == s[at]
-    } else {
-        false
+    let position = s[POSITION];
+    if n <= position {
+        return fall_back(s, x, n as usize);
     }
-}
-
-// The position is that of the code's last byte.
-fn completes(s: &State) -> bool
-    requires { ⌜ getD (now s) 11 0 < 16 ⌝ }
-    ensures { λ r. ⌜ r ≡ frame.completes (view (now (s .entry))) ⌝ }
-{
-    let k = s[POSITION];
-    k + 1 == code_length(s)
+    let k = position as usize;
+    if x == s[CODE + k] {
+        return k + 1;
+    }
+    fall_back(s, x, k)
 }
 
 fn open_lock(s: &mut State)
@@ -63,20 +94,6 @@ fn open_lock(s: &mut State)
     s[POSITION] = 0;
 }
 
-// One key further: the lock opens at the code's end.
-fn advance(s: &mut State)
-    requires { ⌜ getD (now s) 11 0 < 16 ⌝ }
-    ensures { λ _. ⌜ Changed frame.advanced (now (s .entry)) (now (s .exit)) ⌝ }
-{
-    if completes(s) {
-        open_lock(s);
-        put_cell(s, 0x14);
-    } else {
-        let k = s[POSITION];
-        set_position(s, k + 1);
-    }
-}
-
 // A key while locked.
 pub(crate) fn try_key(s: &mut State, x: u8)
     ensures { λ _. ⌜ Changed (frame.try x) (now (s .entry)) (now (s .exit)) ⌝ }
@@ -84,9 +101,11 @@ pub(crate) fn try_key(s: &mut State, x: u8)
     if ignored(s, x) {
         return;
     }
-    if matches(s, x) {
-        advance(s);
+    let k = reach(s, x) as u8;
+    if k == code_length(s) {
+        open_lock(s);
+        put_cell(s, 0x14);
     } else {
-        set_position(s, 0);
+        set_position(s, k);
     }
 }

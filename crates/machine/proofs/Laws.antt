@@ -6,6 +6,7 @@ pub mod Bounds
 pub mod Bits
 pub mod DataPort
 pub mod Commands
+pub mod Lock
 pub mod Frames
 pub mod Events
 pub mod Noise
@@ -17,6 +18,7 @@ pub mod KeptDataPort
 pub mod KeptCommands
 pub mod KeptFrames
 pub mod Kept
+pub mod Counting
 pub mod Run
 pub mod Modes
 pub mod AtMode

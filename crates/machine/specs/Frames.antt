@@ -1,14 +1,15 @@
 -- "Events", kinds 4 to 8: what arrives from the keyboard, the mouse and the wire, and a try at the lock.
-use Prim.Native.Nat.{ℕ, _+_}
-use mathlib.Core.Bool.{Bool, true, false, cond, not, _&&_, _||_}
-use lib.ListN.{length, getD}
-use lib.Dec.{eqb, ltb}
+use Prim.Native.Nat.{ℕ}
+use mathlib.Core.Bool.{Bool, true, false, cond, not, _||_}
+use mathlib.Core.List.{List, _∷_}
+use lib.Dec.{eqb}
 use Rattle.translation.specs.Bits.{has}
-use Rattle.translation.specs.Frames.{Check, sound, parity, broken, noise, check}
+use Rattle.translation.specs.Frames.{Check, sound, parity, broken, noise}
 use Rattle.translation.specs.ScanCodes.{Translation, Yielded, nothing, byte, translate, raw, builtIn}
 use Rattle.machine.specs.State.{Public, Machine, withErrors, withPorts, withBreaks, withLocked, lift, withSecret}
 use Rattle.machine.specs.Lines.{atMode, put, putMouse, putCell, cellOf, inhibited, mouseInhibited, translates}
 use Rattle.machine.specs.DataPort.{send}
+use Rattle.machine.specs.Lock.{opening, reached, begun}
 
 -- The error bits after a frame that is no noise: a broken one sets TERR, a wrong parity PERR, and the others are cleared.
 abbrev pub errorsSet : Bool → Bool → Public → Public
@@ -37,14 +38,6 @@ damagedKey t e m = positioned 0 (lift keyError (lift (breaking false) (lift (err
 abbrev pub ignored : ℕ → Public → Bool
 ignored x p = has x 7 || (eqb x (cellOf p 0x16) || eqb x (cellOf p 0x17))
 
--- the code's byte at the position
-abbrev pub matches : ℕ → Machine → Bool
-matches x m = ltb (m .secret .position) (length (m .secret .code)) && eqb x (getD (m .secret .code) (m .secret .position) 0)
-
--- the byte at the position is the code's last
-abbrev pub completes : Machine → Bool
-completes m = eqb (m .secret .position + 1) (length (m .secret .code))
-
 -- the lock opens, and cell 14h is put unless it is 0
 abbrev pub opened : Machine → Machine
 opened m = record { plain = withLocked (m .plain) false; secret = record { code = m .secret .code; position = 0 } }
@@ -52,13 +45,19 @@ opened m = record { plain = withLocked (m .plain) false; secret = record { code 
 abbrev pub unlocked : Machine → Machine
 unlocked m = lift (putCell 0x14) (opened m)
 
--- one key further: the lock opens at the code's end
-unfoldable pub advanced : Machine → Machine
-advanced m = cond (completes m) (unlocked m) (positioned (m .secret .position + 1) m)
+-- The keys counted, as far as the position tells them.
+abbrev pub keys : Machine → List ℕ
+keys m = begun (m .secret .code) (m .secret .position)
+
+-- A key that counts: the lock opens by the rule, or the position is the one that the keys with this one behind them lead to.
+unfoldable pub counted : ℕ → Machine → Machine
+counted x m =
+    let code = m .secret .code in
+    cond (opening code (x ∷ keys m)) (unlocked m) (positioned (reached code (x ∷ keys m)) m)
 
 -- A key while locked, the paper's try.
 unfoldable pub try : ℕ → Machine → Machine
-try x m = cond (ignored x (m .plain)) m (cond (matches x m) (advanced m) (positioned 0 m))
+try x m = cond (ignored x (m .plain)) m (counted x m)
 
 -- A byte that the translation yielded: the key lock swallows it, locked it is a try, else it is put.
 unfoldable pub keyedByte : ℕ → Machine → Machine

@@ -3,10 +3,12 @@ pub mod State
 pub mod Lines
 pub mod DataPort
 pub mod Commands
+pub mod Lock
 pub mod Frames
 pub mod Events
 pub mod Run
 pub mod Kept
+pub mod Counting
 pub mod Modes
 pub mod Flags
 pub mod View

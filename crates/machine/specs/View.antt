@@ -97,8 +97,11 @@ public s =
     }
 
 -- the lock code's length is byte 10, and its bytes stand from byte 12 on
+abbrev pub codeOf : List ℕ → List ℕ
+codeOf s = take (at s 10) (take 16 (drop 12 s))
+
 abbrev pub view : List ℕ → Machine
-view s = record { plain = public s; secret = record { code = take (at s 10) (take 16 (drop 12 s)); position = at s 11 } }
+view s = record { plain = public s; secret = record { code = codeOf s; position = at s 11 } }
 
 -- The bytes are those of their machine: what stands for nothing in them is 0.
 abbrev pub IsState : List ℕ → Type 0

@@ -9,6 +9,7 @@ use Rattle.translation.specs.Frames.{Check, sound, parity, broken, noise, check
 use Rattle.translation.specs.ScanCodes.{from}
 use Rattle.machine.specs.Settings.{ordinary}
 use Rattle.machine.specs.State.{Machine, fresh}
+use Rattle.machine.specs.Lock.{same}
 use Rattle.machine.specs.Events.{Event, event, step, answer}
 use Rattle.machine.specs.Run.{after}
 
@@ -63,12 +64,6 @@ abbrev pub reads : Machine → List Event → List ℕ
 reads m [] = []
 reads m (e ∷ es) = newByte (e .kind) (answer m e) ++ reads (step m e) es
 
-abbrev pub same : List ℕ → List ℕ → Bool
-same [] [] = true
-same [] (y ∷ ys) = false
-same (x ∷ xs) [] = false
-same (x ∷ xs) (y ∷ ys) = eqb x y && same xs ys
-
 -- status and byte after a frame: OBF and P1 bit 7, with PERR for a wrong parity and TERR for a broken frame; after noise no byte
 abbrev pub shown : Check → List ℕ
 shown (sound b) = 0x11 ∷ b ∷ []
@@ -120,3 +115,9 @@ table =
     opens (0x1E ∷ 0x30 ∷ []) (0x1C ∷ 0x32 ∷ []) ∷
     loads 16 true ∷
     loads 17 false ∷ []
+
+-- Document 02, W5: the code is the keys A A B. One A too many, and A B before it, keep no code from opening the lock.
+unfoldable pub slips : List Row
+slips =
+    opens (0x1E ∷ 0x1E ∷ 0x30 ∷ []) (0x1C ∷ 0x1C ∷ 0x1C ∷ 0x32 ∷ []) ∷
+    opens (0x1E ∷ 0x1E ∷ 0x30 ∷ []) (0x1C ∷ 0x32 ∷ 0x1C ∷ 0x1C ∷ 0x32 ∷ []) ∷ []

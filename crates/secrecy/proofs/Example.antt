@@ -14,7 +14,8 @@ use Rattle.machine.specs.State.{fresh}
 use Rattle.machine.specs.Lines.{putCell}
 use Rattle.machine.specs.DataPort.{loadByte, writeData}
 use Rattle.machine.specs.Commands.{pendingOf, loadCut, plainCommand, lockedUp, acts, writeCommand}
-use Rattle.machine.specs.Frames.{advanced, try, keyed, keyedByte, translated, soundKey, keyboardFrame}
+use Rattle.machine.specs.Lock.{endWith, longest, begun}
+use Rattle.machine.specs.Frames.{counted, try, keyed, keyedByte, translated, soundKey, keyboardFrame}
 use Rattle.machine.specs.Events.{Event, refusal, stateRefusal, accept, step}
 use Rattle.machine.specs.Run.{after}
 use Rattle.secrecy.specs.Paired.{At, before, Allowed, same, loading, trying, opens, Paired}
@@ -59,7 +60,7 @@ module _ (lock : Bool) where
   -- in both lists the lock opens at the last place and at no other
   pub opens-last : (k : ℕ) → k < 6 → (opens (fresh x) first k ≡ eqb k 5) × (opens (fresh x) second k ≡ eqb k 5)
   unfolding fresh after step refusal stateRefusal accept writeCommand acts loadCut pendingOf plainCommand lockedUp putCell writeData loadByte check ones
-      keyboardFrame soundKey translated translate builtIn rows keyed keyedByte try advanced
+      keyboardFrame soundKey translated translate builtIn rows keyed keyedByte try counted endWith longest begun
   opens-last zero h = (refl, refl)
   opens-last (suc zero) h = (refl, refl)
   opens-last (suc (suc zero)) h = (refl, refl)

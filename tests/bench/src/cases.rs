@@ -50,24 +50,49 @@ pub fn mix(count: usize) -> Case {
     }
 }
 
-/// A code of two bytes is loaded and locked with, then wrong keys only.
-fn tries() -> Case {
-    let setup = [
-        event(3, 0xAE),
-        event(3, 0xA5),
-        event(1, 0x1E),
-        event(1, 0x30),
-        event(1, 0x00),
-        event(3, 0xA6),
-    ];
-    let keys = [0x32, 0x21, 0x23, 0x24, 0x2B].map(|key| event(4, frame(key)));
+/// The set 2 bytes of two keys, and the codes that they are translated to.
+const KEY: u8 = 0x1C;
+const CODE: u8 = 0x1E;
+const OTHER_KEY: u8 = 0x32;
+const OTHER_CODE: u8 = 0x30;
+
+/// The code is loaded and locked with, then these keys come over and over.
+fn locked_with(code: &[u8], keys: &[u8], count: usize) -> Case {
+    let mut setup = vec![event(3, 0xAE), event(3, 0xA5)];
+    setup.extend(code.iter().map(|&byte| event(1, u16::from(byte))));
+    setup.extend([event(1, 0x00), event(3, 0xA6)]);
+    let keys: Vec<_> = keys.iter().map(|&key| event(4, frame(key))).collect();
     let mut list = cycle(&setup, setup.len());
-    list.extend(cycle(&keys, 7_000 - setup.len()));
+    list.extend(cycle(&keys, count));
     Case {
         list,
         setup: setup.len(),
         outcome: Outcome::Accepted,
     }
+}
+
+/// Wrong keys only, each ruled out by the first byte of the code.
+fn tries() -> Case {
+    locked_with(&[CODE, OTHER_CODE], &[0x32, 0x21, 0x23, 0x24, 0x2B], 6_994)
+}
+
+/// Fifteen equal bytes and another. The first key comes over and over, and each
+/// after the fifteenth is a slip that keeps the position.
+fn slips() -> Case {
+    let mut code = [CODE; 16];
+    code[15] = OTHER_CODE;
+    locked_with(&code, &[KEY], 6_980)
+}
+
+/// A try for which each beginning of the code has to be compared to its end,
+/// as no other code asks for: the last event of the list.
+pub fn dearest() -> Case {
+    let mut code = [OTHER_CODE; 16];
+    code[0] = CODE;
+    code[15] = CODE;
+    let mut keys = [OTHER_KEY; 16];
+    keys[0] = KEY;
+    locked_with(&code, &keys, 16)
 }
 
 /// Unknown kind, value too large, device off, nothing being sent.
@@ -87,6 +112,7 @@ pub fn by_name(name: &str) -> Option<Case> {
         "mix-700" => Some(mix(700)),
         "mix-7000" => Some(mix(7_000)),
         "tries" => Some(tries()),
+        "slips" => Some(slips()),
         "refused" => Some(refused()),
         _ => None,
     }

@@ -2,7 +2,7 @@
 //!
 //! `bench CASE` prints the number of events run by each of the two, for a
 //! profiler around it to divide by. `bench events` does so with one call an
-//! event; `bench judge`, `bench judge-all` and `bench frame` print the number
+//! event, and `bench dearest` with one event on copies of one state; `bench judge`, `bench judge-all` and `bench frame` print the number
 //! of calls to judge a frame or to frame a byte. `bench stack WHO` makes a
 //! single run. Runs are under the ordinary settings.
 
@@ -23,6 +23,9 @@ const CALLS: usize = 14 * FRAMES as usize;
 
 /// How many numbers have eleven bits.
 const FRAMES: u16 = 2048;
+
+/// How often one event is repeated on a copy of its state.
+const LAST_CALLS: usize = 1_000;
 
 fn profile(case: &Case) {
     case.check();
@@ -51,6 +54,28 @@ fn profile_events(case: &Case) {
         assert_eq!(by_library, by_model, "answers differ");
     }
     println!("{}", case.list.len() / 3);
+}
+
+/// The last event of a case, again and again on the state before it.
+fn profile_last(case: &Case) {
+    case.check();
+    let (before, last) = case.list.split_at(case.list.len() - 3);
+    let (kind, value) = (last[0], u16::from_le_bytes([last[1], last[2]]));
+    let (mut by_library, mut by_model) = ([0; 9], [0; 9]);
+    let mut state = State::fresh(panel::ORDINARY);
+    let mut model = Controller::fresh(Settings::ORDINARY);
+    for event in before.chunks_exact(3) {
+        let value = u16::from_le_bytes([event[1], event[2]]);
+        state.event(event[0], value, &mut by_library);
+        model.event(event[0], value);
+    }
+    for _ in 0..LAST_CALLS {
+        let (mut state, mut model) = (State::from_bytes(state.bytes()), model.clone());
+        measured::measured_library_event(&mut state, kind, value, &mut by_library);
+        measured::measured_model_event(&mut model, kind, value, &mut by_model);
+        assert_eq!(by_library, by_model, "answers differ");
+    }
+    println!("{LAST_CALLS}");
 }
 
 /// Frames judged: those of every byte, or all numbers of eleven bits.
@@ -89,6 +114,7 @@ fn main() -> ExitCode {
     match words[..] {
         ["stack", who] => use_stack(who),
         ["events"] => profile_events(&cases::mix(7_000)),
+        ["dearest"] => profile_last(&cases::dearest()),
         ["judge"] => profile_judging(&(0..=u8::MAX).map(model::frame).collect::<Vec<_>>()),
         ["judge-all"] => profile_judging(&(0..FRAMES).collect::<Vec<_>>()),
         ["frame"] => profile_framing(),

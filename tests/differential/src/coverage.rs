@@ -21,7 +21,10 @@ pub struct Coverage {
     pub opens: usize,
     /// The same by the length of the code.
     pub opened_lengths: [usize; PASSWORD_LIMIT + 1],
+    /// Wrong keys within a code: those that kept nothing of it, and those that
+    /// kept less than there was.
     pub wrong_tries: usize,
+    pub slips: usize,
     pub resets_by_damage: usize,
     pub swallowed: usize,
     pub overridden: usize,
@@ -50,6 +53,7 @@ impl Coverage {
             opens: 0,
             opened_lengths: [0; PASSWORD_LIMIT + 1],
             wrong_tries: 0,
+            slips: 0,
             resets_by_damage: 0,
             swallowed: 0,
             overridden: 0,
@@ -129,6 +133,7 @@ impl Coverage {
             "opened locks by length",
         );
         often(self.wrong_tries, 334, "wrong keys after right ones");
+        often(self.slips, 334, "wrong keys that keep a part");
         often(self.resets_by_damage, 50, "damage after right keys");
         often(self.swallowed, 50, "keys swallowed while locked");
     }
@@ -158,7 +163,7 @@ impl Coverage {
         match judge(event.value) {
             Verdict::Sound(byte) => self.note_key(before, byte, after),
             Verdict::WrongParity | Verdict::Broken => {
-                self.resets_by_damage += usize::from(before.position > 0);
+                self.resets_by_damage += usize::from(before.position() > 0);
             }
             Verdict::Noise => {}
         }
@@ -171,7 +176,17 @@ impl Coverage {
             self.opens += 1;
             self.opened_lengths[after.password.len()] += 1;
         }
-        self.wrong_tries += usize::from(before.position > 0 && after.locked && after.position == 0);
+        if after.locked && before.position() > 0 {
+            self.note_key_within(before, after);
+        }
+    }
+
+    /// The key was within a code. Where it was counted and not the right one,
+    /// the position is no more than it was.
+    fn note_key_within(&mut self, before: &Controller, after: &Controller) {
+        let (position, kept) = (before.position(), after.position());
+        self.wrong_tries += usize::from(kept == 0);
+        self.slips += usize::from(kept > 0 && kept < position);
     }
 }
 

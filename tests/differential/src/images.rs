@@ -27,11 +27,18 @@ fn device(random: &mut Random) -> Device {
     random.pick(&[Device::Keyboard, Device::Mouse])
 }
 
+/// Some have few different bytes, so that a wrong key may be a start of them.
 fn password(random: &mut Random) -> Password {
     let mut password = Password::EMPTY;
+    let repeats = random.pick(&[0, 0, 75]);
     for _ in 0..random.below(17) {
         let last = if random.chance(95) { 0x7F } else { 0xFF };
-        password.push(random.byte_in(0x01..=last));
+        let again = !password.is_empty() && random.chance(repeats);
+        password.push(if again {
+            random.pick(password.bytes())
+        } else {
+            random.byte_in(0x01..=last)
+        });
     }
     password
 }
@@ -44,7 +51,8 @@ fn maybe_lock(state: &mut Controller, random: &mut Random) {
     state.locked = true;
     state.pending = Pending::None;
     state.sending = None;
-    state.position = random.below(state.password.len());
+    let position = random.below(state.password.len());
+    state.count_first(position);
     if random.chance(80) {
         state.clear_mode(mode::KEYBOARD_OFF);
     }
@@ -84,7 +92,6 @@ pub fn state(random: &mut Random, settings: Settings) -> Controller {
         overlay: random.chance(30).then(|| random.byte_in(0..=15)),
         sending: random.chance(30).then(|| (device(random), random.byte())),
         password: password(random),
-        position: 0,
         ram,
         ..Controller::fresh(settings)
     };

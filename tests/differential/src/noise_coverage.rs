@@ -38,7 +38,7 @@ const STANDINGS: [(&str, Possible, Holds); 21] = [
     ("another code pending", EVER, other_pending),
     ("overlay", PS2, |state| state.overlay.is_some()),
     ("locked before a code", PS2, |state| {
-        state.locked && state.position == 0
+        state.locked && !within(state)
     }),
     ("within a code", PS2, within),
     ("within a code, TERR", PS2, |state| {
@@ -67,9 +67,9 @@ fn other_pending(state: &Controller) -> bool {
     !matches!(state.pending, Pending::None | Pending::Password)
 }
 
-/// Locked, with some keys of the code already right.
+/// Locked, with a start of the code typed.
 fn within(state: &Controller) -> bool {
-    state.position > 0
+    state.position() > 0
 }
 
 const CAUSES: [&str; 3] = ["device off", "full", "sending"];
@@ -201,8 +201,10 @@ mod tests {
         assert_eq!(reached(&state, mouse_noise()), named("Mouse", &expected));
         state.parity_error = true;
         state.pins = 0x7F;
+        state.password.push(0x1E);
+        state.password.push(0x30);
         state.locked = true;
-        state.position = 1;
+        state.count_first(1);
         let expected = [
             "PERR",
             "translated",

@@ -264,6 +264,13 @@ fn within_a_code() -> Vec<Scene> {
         scene("within a code", mode::TRANSLATE, &[], within, &[]),
         scene("within a code, untranslated", 0, &[], within, &[]),
         scene(
+            "within a code, after a slip",
+            mode::TRANSLATE,
+            &keys,
+            within,
+            &[],
+        ),
+        scene(
             "within a code, TERR by the mouse",
             mode::TRANSLATE,
             &[mouse(BROKEN)],
@@ -303,7 +310,7 @@ fn within_a_code() -> Vec<Scene> {
 }
 
 fn within(state: &Controller) -> bool {
-    state.locked && state.position == 2
+    state.position() == 2
 }
 
 /// The mouse has set an error before the key was turned. Its next byte is put

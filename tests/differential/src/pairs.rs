@@ -1,11 +1,17 @@
 //! Pairs of lists that differ in secrets only.
 
 use crate::event::{Event, kind};
+use crate::few_keys;
 use crate::keys;
+use crate::pair_slips::SeenSlips;
 use crate::premise::{is_code_byte, is_plain_key, opens};
 use crate::random::Random;
+use crate::slip_plan;
+use crate::typist::Typist;
 use crate::walker::Walker;
 use model::{Controller, Pending, Settings, Verdict, judge};
+use std::cmp::Ordering;
+use std::collections::VecDeque;
 
 /// How much of what matters a number of pairs has reached.
 #[derive(Clone, Debug, Default)]
@@ -35,6 +41,14 @@ pub struct PairCoverage {
     /// Pairs in which the lock opened for two different codes after noise
     /// between their keys.
     pub opened_over_noise: usize,
+    /// Pairs in which one list kept a part at a wrong key where the other, at
+    /// one too, lost all.
+    pub kept_apart: usize,
+    /// Pairs in which the lock opened after different slips, without which
+    /// neither list would have opened it.
+    pub opened_by_slips: usize,
+    /// Those of them that did so with different codes.
+    pub opened_by_slips_apart: usize,
 }
 
 /// What has happened so far in the pair being built.
@@ -48,6 +62,7 @@ struct Seen {
     refused: bool,
     key_turned: bool,
     noise: SeenNoise,
+    slips: SeenSlips,
 }
 
 /// The same of noise, from either device.
@@ -65,8 +80,15 @@ pub struct Pair {
     pub second: Vec<u8>,
 }
 
+/// Chooses an event of the first list by a look at its state.
+type Choose = Box<dyn FnMut(&Controller) -> Event>;
+
 struct Builder {
-    walker: Walker,
+    choose: Choose,
+    /// What the second list's codes are made of, where they have few keys.
+    few: Option<Vec<u8>>,
+    /// Keys for both lists that open together, where such were drawn.
+    planned: VecDeque<(u8, u8)>,
     random: Random,
     first: Controller,
     second: Controller,
@@ -86,27 +108,29 @@ pub fn build_from(
     length: usize,
     coverage: &mut PairCoverage,
 ) -> Pair {
-    let mut builder = Builder {
-        walker: Walker::new(seed),
-        random: Random::new(!seed),
-        first: state.clone(),
-        second: state.clone(),
-        seen: Seen::default(),
+    let mut walker = Walker::new(seed);
+    let choose = Box::new(move |state: &Controller| walker.next(state));
+    let builder = Builder::new(choose, None, Random::new(!seed), state);
+    builder.build(length, coverage)
+}
+
+/// The same with codes of few keys, so that both lists slip all the time. The
+/// keys of their codes are the same or others.
+pub fn build_with_slips(
+    state: &Controller,
+    seed: u64,
+    length: usize,
+    coverage: &mut PairCoverage,
+) -> Pair {
+    let mut typist = Typist::new(seed);
+    let mut random = Random::new(!seed);
+    let few = if random.chance(50) {
+        typist.bytes().to_vec()
+    } else {
+        few_keys::draw_bytes(&mut random)
     };
-    let mut pair = Pair {
-        first: Vec::new(),
-        second: Vec::new(),
-    };
-    for _ in 0..length {
-        let (one, other) = builder.step();
-        pair.first.extend(one.to_bytes());
-        pair.second.extend(other.to_bytes());
-        if builder.stuck() && builder.random.chance(3) {
-            break;
-        }
-    }
-    builder.seen.add_to(coverage);
-    pair
+    let choose = Box::new(move |state: &Controller| typist.next(state));
+    Builder::new(choose, Some(few), random, state).build(length, coverage)
 }
 
 impl Seen {
@@ -123,10 +147,45 @@ impl Seen {
         coverage.noise_within += usize::from(self.noise.within);
         coverage.noise_progressed_apart += usize::from(self.noise.progressed);
         coverage.opened_over_noise += usize::from(self.noise.opened);
+        coverage.kept_apart += usize::from(self.slips.kept_apart);
+        coverage.opened_by_slips += usize::from(self.slips.opened);
+        coverage.opened_by_slips_apart += usize::from(self.slips.opened_apart);
     }
 }
 
 impl Builder {
+    fn new(choose: Choose, few: Option<Vec<u8>>, random: Random, state: &Controller) -> Builder {
+        Builder {
+            choose,
+            few,
+            planned: VecDeque::new(),
+            random,
+            first: state.clone(),
+            second: state.clone(),
+            seen: Seen {
+                slips: SeenSlips::from(state),
+                ..Seen::default()
+            },
+        }
+    }
+
+    fn build(mut self, length: usize, coverage: &mut PairCoverage) -> Pair {
+        let mut pair = Pair {
+            first: Vec::new(),
+            second: Vec::new(),
+        };
+        for _ in 0..length {
+            let (one, other) = self.step();
+            pair.first.extend(one.to_bytes());
+            pair.second.extend(other.to_bytes());
+            if self.stuck() && self.random.chance(3) {
+                break;
+            }
+        }
+        self.seen.add_to(coverage);
+        pair
+    }
+
     /// Draws until both lists open the lock or neither does.
     fn step(&mut self) -> (Event, Event) {
         loop {
@@ -143,7 +202,7 @@ impl Builder {
     }
 
     fn draw(&mut self) -> (Event, Event) {
-        let event = self.walker.next(&self.first);
+        let event = (self.choose)(&self.first);
         if self.first.pending == Pending::Password && is_code_byte(event) {
             (event, Event::data(self.other_code_byte(event.value as u8)))
         } else if self.first.locked && is_plain_key(event) {
@@ -155,6 +214,9 @@ impl Builder {
 
     /// Mostly another byte, and one that a key can give.
     fn other_code_byte(&mut self, byte: u8) -> u8 {
+        if let Some(few) = &self.few {
+            return self.random.pick(few);
+        }
         match self.random.below(100) {
             0..=9 => byte,
             10 => self.random.byte_in(0x01..=0xFF),
@@ -163,11 +225,15 @@ impl Builder {
     }
 
     /// Two keys that are mostly right or wrong together. When one list is
-    /// ahead, wrong keys bring both back to the start.
+    /// ahead, foreign keys bring both back to the start.
     fn two_keys(&mut self, event: Event) -> (Event, Event) {
-        if self.first.position != self.second.position && self.random.chance(50) {
-            let one = keys::wrong_key(&self.first, &mut self.random);
-            return (Event::key(one), self.wrong_in_second());
+        if self.few.is_some() {
+            return self.two_slips(event);
+        }
+        if self.first.position() != self.second.position() && self.random.chance(50) {
+            let one = keys::foreign_key(&self.first, &mut self.random);
+            let other = keys::foreign_key(&self.second, &mut self.random);
+            return (Event::key(one), Event::key(other));
         }
         let Verdict::Sound(byte) = judge(event.value) else {
             return (event, event);
@@ -178,6 +244,39 @@ impl Builder {
             Some(right) if first_is_right == together => (event, Event::key(right)),
             _ => (event, self.wrong_in_second()),
         }
+    }
+
+    /// Two keys of which either may slip: keys that open together after slips,
+    /// or such as bring the lists level.
+    fn two_slips(&mut self, event: Event) -> (Event, Event) {
+        if self.planned.is_empty() && self.random.chance(20) {
+            let locks = [&self.first, &self.second];
+            let keys = slip_plan::draw(&mut self.random, locks);
+            self.planned = keys.unwrap_or_default().into();
+        }
+        if let Some((one, other)) = self.planned.pop_front() {
+            return (Event::key(one), Event::key(other));
+        }
+        if self.random.chance(20) {
+            let other = wrong_of_few(&self.second, &mut self.random);
+            return (event, Event::key(other));
+        }
+        self.level_keys()
+    }
+
+    /// The list that is ahead slips while the other has the right key.
+    fn level_keys(&mut self) -> (Event, Event) {
+        let lists = [&self.first, &self.second];
+        let [one, other] = lists.map(|list| wrong_of_few(list, &mut self.random));
+        let right = lists.map(keys::right_key);
+        let together = self.random.chance(80);
+        let (one, other) = match lists[0].position().cmp(&lists[1].position()) {
+            Ordering::Less => (right[0].unwrap_or(one), other),
+            Ordering::Greater => (one, right[1].unwrap_or(other)),
+            Ordering::Equal if together => (right[0].unwrap_or(one), right[1].unwrap_or(other)),
+            Ordering::Equal => (one, other),
+        };
+        (Event::key(one), Event::key(other))
     }
 
     fn wrong_in_second(&mut self) -> Event {
@@ -194,10 +293,11 @@ impl Builder {
         let codes_differ = self.first.password != self.second.password;
         let refused = self.first.refusal(one.kind, one.value) != 0;
         let keys_differ = self.first.locked && one != other;
-        let at_start = first.position == 0 && second.position == 0;
+        let positions = [first.position(), second.position()];
+        let at_start = positions == [0, 0];
         self.seen.wrong |= keys_differ && !refused && !opened && at_start;
         self.seen.locked |= first.locked && codes_differ;
-        self.seen.progressed |= first.position != second.position;
+        self.seen.progressed |= positions[0] != positions[1];
         self.seen.opened |= opened;
         self.seen.opened_apart += usize::from(opened && codes_differ);
         self.seen.refused |= keys_differ && refused;
@@ -206,11 +306,16 @@ impl Builder {
         if codes_differ {
             self.note_noise(one.is_noise() && !refused, opened);
         }
+        // Other codes have too few slips to be looked for.
+        if self.few.is_some() {
+            let before = [&self.first, &self.second];
+            self.seen.slips.note(before, [one, other], [first, second]);
+        }
     }
 
     /// Looks for noise among the keys of two codes that differ.
     fn note_noise(&mut self, accepted_noise: bool, opened: bool) {
-        let positions = [self.first.position, self.second.position];
+        let positions = [self.first.position(), self.second.position()];
         let within = positions.iter().all(|&position| position > 0);
         let seen = &mut self.seen.noise;
         seen.between_keys &= within;
@@ -224,4 +329,11 @@ impl Builder {
     fn stuck(&self) -> bool {
         self.first.locked && !(keys::can_open(&self.first) && keys::can_open(&self.second))
     }
+}
+
+/// Mostly a key that keeps as much as it can.
+fn wrong_of_few(state: &Controller, random: &mut Random) -> u8 {
+    let keeping = keys::keeping_key(state).filter(|_| random.chance(75));
+    let slip = keeping.or_else(|| keys::slip_key(state, random));
+    slip.unwrap_or_else(|| keys::foreign_key(state, random))
 }

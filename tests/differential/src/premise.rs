@@ -59,6 +59,7 @@ pub fn comparable_from(state: &Controller, first: &[u8], second: &[u8]) -> bool 
 #[cfg(test)]
 mod tests {
     use super::*;
+    use crate::few_keys;
     use crate::under_settings::{MOUSE_LOCK, ORDINARY};
     use model::mode;
 
@@ -118,6 +119,57 @@ mod tests {
         assert!(comparable_from(&state, &right, &right));
         assert!(!comparable_from(&state, &wrong, &right));
         assert!(!comparable(settings, &wrong, &other));
+    }
+
+    /// Loads a code, locks and types, in a list of its own for each code.
+    fn typed_at(code: &[u8], keys: &[u8]) -> Vec<u8> {
+        let load = [Event::command(0xAE), Event::command(0xA5)];
+        let code = code.iter().map(|&byte| Event::data(byte));
+        let lock = [Event::data(0), Event::command(0xA6)];
+        let keys = keys.iter().map(|&key| Event::key(key));
+        let events = load.into_iter().chain(code).chain(lock).chain(keys);
+        events.flat_map(Event::to_bytes).collect()
+    }
+
+    /// The places of opening are those at which the last keys are the code,
+    /// whatever slips come before.
+    #[test]
+    fn slips_move_no_opening() {
+        let pair = |one: &[u8], other: &[u8]| comparable(ORDINARY, one, other);
+        let [a, b, other] = [0x1C, 0x32, 0x21];
+        let code = [0x1E, 0x1E, 0x30];
+        let slipped = typed_at(&code, &[a, a, a, b]);
+        // Opened at the fourth key too, after another wrong key.
+        assert!(pair(&slipped, &typed_at(&code, &[other, a, a, b])));
+        let palindrome = [0x1E, 0x30, 0x1E];
+        assert!(pair(&slipped, &typed_at(&palindrome, &[a, a, b, a])));
+        // Shut to the end, as a lock would be that throws a start away.
+        for keys in [[a, a, a, a], [a, a, other, b], [b, b, b, b]] {
+            assert!(!pair(&slipped, &typed_at(&code, &keys)));
+            assert!(!pair(&typed_at(&code, &keys), &slipped));
+        }
+        // Opened one key earlier.
+        assert!(!pair(&slipped, &typed_at(&code, &[a, a, b, b])));
+        let shut = typed_at(&code, &[a, a, a, a]);
+        assert!(pair(&shut, &typed_at(&palindrome, &[a, b, b, a])));
+        assert!(!pair(&shut, &typed_at(&palindrome, &[a, a, b, a])));
+    }
+
+    /// From a lock that is shut within its code, in AT mode too.
+    fn slips_move_no_opening_from_a_locked_state(settings: Settings) {
+        let [a, b, other] = [0x1C, 0x32, 0x21];
+        let list = |keys: &[u8]| -> Vec<u8> {
+            let keys = keys.iter().map(|&key| Event::key(key));
+            keys.flat_map(Event::to_bytes).collect()
+        };
+        let code = [0x1E, 0x30, 0x1E, 0x30, 0x30];
+        let state = few_keys::locked(settings, &code, 4);
+        let pair = |one: &[u8], other: &[u8]| comparable_from(&state, &list(one), &list(other));
+        assert!(pair(&[a, b, b], &[a, b, b]));
+        assert!(!pair(&[a, b, b], &[other, b, b]));
+        assert!(pair(&[a, b, a], &[other, b, b]));
+        assert!(!pair(&[a, a, b, a, b, b], &[b, a, b, a, b, b]));
+        assert!(pair(&[a, a, b, a, b, b], &[other, a, b, a, b, b]));
     }
 
     /// A mouse byte that waits unread has the key refused. The mouse lock keeps
@@ -200,6 +252,7 @@ mod tests {
         secrets_may_differ_where_the_lock_opens_alike,
         nothing_else_may_differ,
         keys_may_differ_from_a_locked_state,
+        slips_move_no_opening_from_a_locked_state,
         noise_may_not_differ_while_locked,
         noise_must_be_the_same_in_both_lists,
     );

@@ -20,6 +20,8 @@ pub struct Walker {
     stray: usize,
     /// Nonzero bytes wanted in the code being loaded.
     code_length: usize,
+    /// Share of these, in percent, that repeat another.
+    repeats: usize,
     /// A command that AT mode switches off has come, and no byte after it.
     data_due: bool,
 }
@@ -29,7 +31,7 @@ pub struct Walker {
 fn noise_share(state: &Controller) -> usize {
     let time_out = state.transmit_timeout || state.timeout_error;
     let flagged = time_out || state.parity_error || state.break_flag;
-    match (flagged, state.position > 0) {
+    match (flagged, state.position() > 0) {
         (false, false) => 2,
         (true, true) => 25,
         _ => 6,
@@ -44,6 +46,7 @@ impl Walker {
             random,
             stray,
             code_length: 0,
+            repeats: 0,
             data_due: false,
         }
     }
@@ -99,8 +102,8 @@ impl Walker {
             return Event::pins(self.random.byte() | 0x80);
         }
         match self.random.below(100) {
-            0..=77 => Event::key(keys::right_key(state).unwrap_or(0x1C)),
-            78..=81 => Event::key(keys::wrong_key(state, &mut self.random)),
+            0..=75 => Event::key(keys::right_key(state).unwrap_or(0x1C)),
+            76..=81 => Event::key(self.wrong_key(state)),
             82..=85 => Event::key(0xF0),
             86..=87 => Event::key(self.random.byte()),
             88 => Event::key(self.random.pick(&[0x00, 0x83, 0x84, 0xE0])),
@@ -115,6 +118,13 @@ impl Walker {
             95 => Event::data(self.random.byte()),
             _ => self.anything(),
         }
+    }
+
+    /// Mostly one of the code's own keys, of which a part may be kept.
+    fn wrong_key(&mut self, state: &Controller) -> u8 {
+        let slip = keys::slip_key(state, &mut self.random);
+        let slip = slip.filter(|_| self.random.chance(70));
+        slip.unwrap_or_else(|| keys::wrong_key(state, &mut self.random))
     }
 
     /// A key whose code stands in one of the cells that a try ignores.
@@ -148,8 +158,12 @@ impl Walker {
     }
 
     fn code_byte(&mut self, state: &Controller) -> u8 {
-        if state.password.len() >= self.code_length {
+        let code = state.password.bytes();
+        if code.len() >= self.code_length {
             return 0;
+        }
+        if !code.is_empty() && self.random.chance(self.repeats) {
+            return self.random.pick(code);
         }
         match self.random.below(100) {
             0 => self.random.byte_in(0x80..=0xFF),
@@ -232,6 +246,7 @@ impl Walker {
         };
         if command == 0xA5 {
             self.code_length = self.choose_code_length();
+            self.repeats = self.random.pick(&[0, 0, 75]);
         }
         Event::command(command)
     }

@@ -56,7 +56,7 @@ fn locked() -> Controller {
     let mut state = fresh();
     state.password = password(&[0x1E, 0x30, 0x2E]);
     state.locked = true;
-    state.position = 2;
+    state.count_first(2);
     state
 }
 
@@ -148,13 +148,12 @@ fn what_is_only_just_allowed() {
 fn longest_password_and_position() {
     let mut state = locked();
     state.password = password(&[0xFF; 16]);
-    state.position = 15;
+    state.count_first(15);
     assert_broken(
         &state,
         &[("position 16", &[(11, 16)]), ("length 17", &[(10, 17)])],
     );
     state.locked = false;
-    state.position = 0;
     state.pending = Pending::Password;
     state.sending = Some((Device::Mouse, 0));
     assert_kept(&state, &[("a full code still loading", &[])]);

@@ -90,8 +90,8 @@ fn every_frame_over_every_mix_of_errors(settings: Settings) {
     }
 }
 
-/// The same with a break flag, at the lock and within its code, which in AT
-/// mode no events shut.
+/// The same with a break flag, at the lock and within its code, where one key
+/// opens and another leaves the position. In AT mode no events shut it.
 fn every_keyboard_frame_at_the_lock_and_after_f0h(settings: Settings) {
     let mut random = Random::new(seed(settings, 122));
     let way = ways().next().expect("nothing in the way");
@@ -100,10 +100,11 @@ fn every_keyboard_frame_at_the_lock_and_after_f0h(settings: Settings) {
             let mut state = standing(settings, mode::KEYBOARD_OFF, way, errors);
             state.break_flag = bits & 1 != 0;
             if bits & 2 != 0 {
-                state.password.push(0x1E);
-                state.password.push(0x30);
+                for byte in [0x1E, 0x1E, 0x30] {
+                    state.password.push(byte);
+                }
                 state.locked = true;
-                state.position = 1;
+                state.count_first(2);
             }
             if bits & 4 != 0 {
                 state.clear_mode(mode::TRANSLATE);

@@ -1,12 +1,14 @@
 //! Lists that differ in secrets only are answered alike.
 
+use differential::event::Event;
+use differential::few_keys;
 use differential::images;
 use differential::pairs::{self, Pair, PairCoverage};
 use differential::premise::{comparable, comparable_from};
 use differential::random::Random;
 use differential::rounds::rounds;
-use differential::under_settings::seed;
-use model::{Controller, Settings, mode, state_bytes};
+use differential::under_settings::{MOUSE_LOCK, ORDINARY, seed};
+use model::{Controller, EVENT_SIZE, Settings, mode, state_bytes};
 use panel::State;
 
 const PAIRS: usize = 8_000;
@@ -14,6 +16,7 @@ const PAIRS: usize = 8_000;
 /// same there and need no more than this.
 const EQUAL_PAIRS: usize = 500;
 const DRAWN_STATES: usize = 3_000;
+const PAIRS_WITH_SLIPS: usize = 3_000;
 
 /// Runs both lists from fresh in buffers that begin alike and compares all of
 /// them.
@@ -121,12 +124,7 @@ fn pairs_from_locked_states_are_answered_alike(settings: Settings) {
         let state = locked(&mut random, settings);
         let seed = seed(settings, 1_000_000 + number);
         let pair = pairs::build_from(&state, seed, 200, &mut coverage);
-        let comparable = comparable_from(&state, &pair.first, &pair.second);
-        assert!(comparable, "pair {number}");
-        let bytes = state_bytes(&state);
-        let run = |list: &[u8], answers: &mut [u8]| State::from_bytes(bytes).run(list, answers);
-        let room = pair.first.len() * 3 + random.below(20);
-        assert_eq!(assert_alike_by(run, &mut random, &pair, room), 0);
+        assert_alike_from(&mut random, &state, &pair, &format!("pair {number}"));
     }
     assert_shares(
         &coverage,
@@ -137,6 +135,104 @@ fn pairs_from_locked_states_are_answered_alike(settings: Settings) {
             (coverage.opened, 30, "opened"),
         ],
     );
+}
+
+/// Runs both lists from a state and compares all of their answers.
+fn assert_alike_from(random: &mut Random, state: &Controller, pair: &Pair, what: &str) {
+    assert!(comparable_from(state, &pair.first, &pair.second), "{what}");
+    let bytes = state_bytes(state);
+    let run = |list: &[u8], answers: &mut [u8]| State::from_bytes(bytes).run(list, answers);
+    let room = pair.first.len() * 3 + random.below(20);
+    assert_eq!(assert_alike_by(run, random, pair, room), 0);
+}
+
+/// Pairs whose codes have few keys and differ, so that both lists slip, each in
+/// its own way. In AT mode no code can be loaded from fresh.
+#[test]
+fn pairs_with_slips_are_answered_alike() {
+    for settings in [ORDINARY, MOUSE_LOCK] {
+        assert_slips_alike(settings);
+    }
+}
+
+fn assert_slips_alike(settings: Settings) {
+    let mut random = Random::new(seed(settings, 54));
+    let mut coverage = PairCoverage::default();
+    let fresh = Controller::fresh(settings);
+    for number in 0..(PAIRS_WITH_SLIPS * rounds()) as u64 {
+        let length = random.pick(&[100, 300, 300, 600]);
+        let seed = seed(settings, 1_400_000 + number);
+        let pair = pairs::build_with_slips(&fresh, seed, length, &mut coverage);
+        assert!(comparable(settings, &pair.first, &pair.second), "{number}");
+        let room = pair.first.len() * 3 + random.below(20);
+        assert_eq!(assert_alike(&mut random, settings, &pair, room), 0);
+    }
+    assert_shares(
+        &coverage,
+        &[
+            (coverage.locked_apart, 70, "locked with different codes"),
+            (coverage.progressed_apart, 50, "right in one list only"),
+            (coverage.opened_apart, 50, "opened with different codes"),
+            (coverage.kept_apart, 60, "a part kept in one list only"),
+            (coverage.opened_by_slips_apart, 40, "opened by slips"),
+            (coverage.opened_over_noise, 30, "opened with noise between"),
+        ],
+    );
+}
+
+/// The same from a state that is locked at the start, in AT mode too. There is
+/// one code, and both lists begin at the same position of it.
+fn pairs_with_slips_from_locked_states_are_answered_alike(settings: Settings) {
+    let mut random = Random::new(seed(settings, 55));
+    let mut coverage = PairCoverage::default();
+    for number in 0..(PAIRS_WITH_SLIPS * rounds()) as u64 {
+        let state = few_keys::draw_locked(&mut random, settings);
+        let seed = seed(settings, 1_500_000 + number);
+        let pair = pairs::build_with_slips(&state, seed, 80, &mut coverage);
+        assert_alike_from(&mut random, &state, &pair, &format!("pair {number}"));
+    }
+    assert_shares(
+        &coverage,
+        &[
+            (coverage.progressed_apart, 40, "right in one list only"),
+            (coverage.kept_apart, 10, "a part kept in one list only"),
+            (coverage.opened, 60, "opened"),
+            (coverage.opened_by_slips, 8, "opened by different slips"),
+        ],
+    );
+}
+
+/// A list of keys and a write, which is refused while the lock is shut.
+fn keys_and_a_write(keys: &[u8]) -> Vec<u8> {
+    let keys = keys.iter().map(|&key| Event::key(key));
+    let events = keys.chain([Event::read(), Event::data(0x00)]);
+    events.flat_map(Event::to_bytes).collect()
+}
+
+/// Where one list opens by a slip and the other does not, nothing is asked, and
+/// the answers do differ.
+fn a_slip_that_opens_one_list_only_is_told(settings: Settings) {
+    let [a, b, other] = [0x1C, 0x32, 0x21];
+    for (code, opening, shut) in [
+        (&[0x1E, 0x1E, 0x30][..], [a, a, a, b], [a, a, a, other]),
+        (&[0x1E, 0x1E, 0x30], [a, a, a, b], [b, a, b, b]),
+        (&[0x1E, 0x30], [a, a, b, b], [a, a, other, b]),
+        (&[0x1E, 0x30], [b, b, a, b], [a, a, other, b]),
+    ] {
+        let state = few_keys::locked(settings, code, 0);
+        let [opening, shut] = [opening, shut].map(|keys| keys_and_a_write(&keys));
+        assert!(!comparable_from(&state, &opening, &shut));
+        assert!(!comparable_from(&state, &shut, &opening));
+        let [one, two] = [opening, shut].map(|list| {
+            let mut answers = vec![0; list.len() / EVENT_SIZE * 9];
+            let mut lock = State::from_bytes(state_bytes(&state));
+            assert_eq!(lock.run(&list, &mut answers), 0);
+            answers
+        });
+        assert_ne!(one, two);
+        assert_eq!(two[5 * 9], 4, "the write at a lock that is shut");
+        assert_eq!(one[5 * 9], 0, "the write at a lock that is open");
+    }
 }
 
 /// The whole call refuses both lists by the same number too.
@@ -173,6 +269,8 @@ fn model_answers_pairs_alike(settings: Settings) {
 differential::under_every_setting!(
     pairs_are_answered_alike,
     pairs_from_locked_states_are_answered_alike,
+    pairs_with_slips_from_locked_states_are_answered_alike,
+    a_slip_that_opens_one_list_only_is_told,
     refused_pairs_are_refused_alike,
     model_answers_pairs_alike,
 );

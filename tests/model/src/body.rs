@@ -1,6 +1,7 @@
 //! The 60-byte body of a saved image.
 
 use crate::controller::{Controller, Device, Pending};
+use crate::counted::Counted;
 use crate::password::{PASSWORD_LIMIT, Password};
 use crate::settings::Settings;
 
@@ -93,7 +94,7 @@ pub fn encode(state: &Controller) -> [u8; BODY_SIZE] {
         body[at::SENT_BYTE] = byte;
     }
     body[at::PASSWORD_LENGTH] = state.password.len() as u8;
-    body[at::POSITION] = state.position as u8;
+    body[at::POSITION] = state.position() as u8;
     let code = state.password.bytes();
     body[at::PASSWORD..at::PASSWORD + code.len()].copy_from_slice(code);
     body[at::RAM..].copy_from_slice(&state.ram);
@@ -111,11 +112,14 @@ fn password(body: &[u8; BODY_SIZE]) -> Password {
 
 /// Reads a body that keeps the body rules. It has no place for the settings,
 /// so they are the ordinary ones, nor for what only AT mode has, which is as
-/// when fresh.
+/// when fresh. Of the counted keys it tells the position alone, so they are as
+/// many of the password's first bytes.
 pub(crate) fn decode(body: &[u8; BODY_SIZE]) -> Controller {
     let has = |bit: u8| body[at::FLAGS] & bit != 0;
     let mut ram = [0; 32];
     ram.copy_from_slice(&body[at::RAM..]);
+    let password = password(body);
+    let position = usize::from(body[at::POSITION]);
     Controller {
         output: body[at::OUTPUT],
         full: has(flag::FULL),
@@ -139,8 +143,8 @@ pub(crate) fn decode(body: &[u8; BODY_SIZE]) -> Controller {
             1 => Some((Device::Keyboard, body[at::SENT_BYTE])),
             _ => Some((Device::Mouse, body[at::SENT_BYTE])),
         },
-        password: password(body),
-        position: usize::from(body[at::POSITION]),
+        password,
+        counted: Counted::first_of(password.bytes(), position),
         ram,
         ..Controller::fresh(Settings::ORDINARY)
     }

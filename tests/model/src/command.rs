@@ -1,6 +1,6 @@
 //! A byte written to port 64h.
 
-use crate::controller::{Controller, Device, Pending, cell, mode};
+use crate::controller::{Controller, Device, Pending, mode};
 use crate::password::Password;
 
 /// The use of the next data byte, as each command leaves it.
@@ -80,15 +80,5 @@ impl Controller {
         } else {
             keyboard | mouse << 1
         }
-    }
-
-    /// Without a password there is nothing to lock with.
-    fn lock(&mut self) {
-        if self.password.is_empty() {
-            return;
-        }
-        self.locked = true;
-        self.position = 0;
-        self.put_notice(cell::LOCK_NOTICE);
     }
 }

@@ -1,5 +1,6 @@
 //! The controller's state and the few changes that many rules share.
 
+use crate::counted::Counted;
 use crate::password::Password;
 use crate::settings::Settings;
 
@@ -45,7 +46,8 @@ pub mod cell {
     pub const IGNORED: [usize; 2] = [0x16, 0x17];
 }
 
-#[derive(Clone, Debug, PartialEq, Eq)]
+/// Two of them are equal where their state bytes are.
+#[derive(Clone, Debug)]
 pub struct Controller {
     pub settings: Settings,
     pub output: u8,
@@ -69,7 +71,7 @@ pub struct Controller {
     pub overlay: Option<u8>,
     pub sending: Option<(Device, u8)>,
     pub password: Password,
-    pub position: usize,
+    pub counted: Counted,
     pub ram: [u8; 32],
 }
 
@@ -98,7 +100,7 @@ impl Controller {
             overlay: None,
             sending: None,
             password: Password::EMPTY,
-            position: 0,
+            counted: Counted::NONE,
             ram,
         }
     }

@@ -39,10 +39,10 @@ impl Controller {
         }
     }
 
-    /// A damaged frame ends a break sequence and a run of tries, locked or not.
+    /// A damaged frame ends a break sequence, and counting starts afresh.
     fn keyboard_damage(&mut self) {
         self.break_flag = false;
-        self.position = 0;
+        self.counted.start_afresh();
         if !self.locked && !self.inhibited() {
             self.put(DAMAGED, Device::Keyboard);
         }

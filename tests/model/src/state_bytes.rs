@@ -29,3 +29,13 @@ pub fn state_bytes(state: &Controller) -> [u8; STATE_SIZE] {
     bytes[at::TRANSMIT_TIMEOUT] = u8::from(state.transmit_timeout);
     bytes
 }
+
+/// The bytes have a place for every part of a state. What they leave out is how
+/// the counted keys came to the position, and no rule asks for that.
+impl PartialEq for Controller {
+    fn eq(&self, other: &Controller) -> bool {
+        state_bytes(self) == state_bytes(other)
+    }
+}
+
+impl Eq for Controller {}

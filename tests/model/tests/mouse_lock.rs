@@ -138,7 +138,7 @@ fn break_flag_and_position_stay() {
     for frame in [0x628, BROKEN, WRONG_PARITY, NOISE] {
         host.mouse_frame(frame);
         assert!(host.state.break_flag);
-        assert_eq!(host.state.position, 1);
+        assert_eq!(host.state.position(), 1);
     }
 }
 

@@ -1,7 +1,7 @@
 -- Machines that are alike: equal in public, with codes of one length. Every rule leaves two of them alike; for a try, that is where the lock
 -- opens in both or in neither. So no answer shows more of the lock code than its length.
 -- Assumes nothing.
-use Prim.Native.Nat.{ℕ, _+_}
+use Prim.Native.Nat.{ℕ}
 use mathlib.Core.Path.{_≡_, refl, ap, sym, _∙_, subst}
 use mathlib.Core.Bool.{Bool, true, false, cond, _||_, or-true, false≢true}
 use lib.Dec.{eqb, ltb}
@@ -15,8 +15,9 @@ use Rattle.machine.specs.State.{Public, Machine, withLocked, lift}
 use Rattle.machine.specs.Lines.{put, putCell, inhibited, translates}
 use Rattle.machine.specs.DataPort.{settled, dataWritten, plainData, dropped, appended, codeFull, loadByte, writeData}
 use Rattle.machine.specs.Commands.{understood, commandWritten, loadCut, plainCommand, hasCode, codeAsked, closed, lockedUp, acts, writeCommand}
-use Rattle.machine.specs.Frames.{errorsSet, positioned, keyError, breaking, damagedKey, ignored, matches, completes, unlocked, advanced, try}
+use Rattle.machine.specs.Frames.{errorsSet, positioned, keyError, breaking, damagedKey, ignored, unlocked, counted, try}
 use Rattle.machine.specs.Frames.{keyed, keyedByte, translated, soundKey, keyboardFrame, mouseFrame, taken, timedOut, pinned}
+use Rattle.machine.specs.Lock.{opening}
 use Rattle.machine.specs.Events.{Event, value, limit, refusal, emptied, accept, step, pulse, reply, answer}
 use Rattle.machine.proofs.Laws.Events.{accept-keyboard}
 
@@ -109,7 +110,7 @@ cond-tried : {m x y : Machine} (t : Bool) → Tried m x → Tried m y → Tried 
 cond-tried true one other = one
 cond-tried false one other = other
 
-putCell-locked : (k : ℕ) (p : Public) → putCell k p .locked ≡ p .locked
+pub putCell-locked : (k : ℕ) (p : Public) → putCell k p .locked ≡ p .locked
 unfolding putCell
 putCell-locked k p = split (eqb (getD (p .ram) k 0) 0) (λ t. simp t) (λ t. simp t)
 
@@ -121,11 +122,10 @@ unlocked-tried : (m : Machine) → Tried m (unlocked m)
 unlocked-tried m = record { plain = rw (putCell-locked 0x14 (withLocked (m .plain) false)); code = refl }
 
 try-tried : (x : ℕ) (m : Machine) → m .plain .locked ≡ true → Tried m (try x m)
-unfolding try advanced
+unfolding try counted
 try-tried x m locked =
     let stays : (k : ℕ) → Tried m (positioned k m) = λ k. positioned-tried k m locked in
-    cond-tried (ignored x (m .plain)) (stays (m .secret .position))
-    (cond-tried (matches x m) (cond-tried (completes m) (unlocked-tried m) (stays (m .secret .position + 1))) (stays 0))
+    cond-tried (ignored x (m .plain)) (stays (m .secret .position)) (cond-tried (opening _ _) (unlocked-tried m) (stays _))
 
 -- a byte that comes while locked
 keyed-tried : (x : ℕ) (m : Machine) → m .plain .locked ≡ true → Tried m (keyed (byte x) m)

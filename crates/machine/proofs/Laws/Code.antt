@@ -1,16 +1,16 @@
 -- The lock code as sixteen bytes of which the first n are the code. Assumes nothing.
 use mathlib.Core.Path.{_≡_, _∙_, ap, sym}
-use mathlib.Core.Bool.{true, false, not, _&&_}
+use mathlib.Core.Bool.{true, false, not}
 use mathlib.Core.List.{List, [], _∷_, _++_}
 use Prim.Native.Nat.{ℕ, _+_, _≤_, _<_, min}
 use native.Mathlib.Omega.{arith}
 use native.Mathlib.Numerals.{add-one}
 use lib.ListN.{length, take, drop, getD, set, length-take, length-drop}
 use lib.Seq.{take-suc-set, getD-take, getD-drop}
-use lib.Dec.{leb, ltb, eqb}
-use borrow.Author.Tests.{le-leb, lt-leb, lt-ltb, le-ltb, eq-eqb, ne-eqb, eqb-true, eqb-false}
+use lib.Dec.{leb, eqb}
+use borrow.Author.Tests.{le-leb, lt-leb, eq-eqb, ne-eqb, eqb-true, eqb-false}
 use Rattle.translation.proofs.Tests.{split}
-use Rattle.machine.specs.View.{stateLength, view}
+use Rattle.machine.specs.View.{stateLength, codeOf, view}
 use Rattle.machine.specs.Commands.{hasCode}
 
 module _ (n : ℕ) (bytes : List ℕ) (long : length bytes ≡ 16) where
@@ -40,15 +40,6 @@ module _ (n : ℕ) (bytes : List ℕ) (long : length bytes ≡ 16) where
   pub code-append : n < 16 → (v : ℕ) → take (n + 1) (set bytes n v) ≡ take n bytes ++ (v ∷ [])
   code-append h v = rw add-one (take-suc-set bytes n v (omega arith))
 
-  -- the code's byte at a position, which the program reads in the array
-  pub code-at : (k x r : ℕ) → r ≡ length (take n bytes) → k < r → eqb x (getD bytes k 0) ≡ (ltb k (length (take n bytes)) && eqb x (getD (take n bytes) k 0))
-  code-at k x r e h =
-      let below : k < length (take n bytes) = omega arith in
-      simp (lt-ltb k (length (take n bytes)) below, getD-take n bytes k 0 (omega (arith, code-length)))
-
-  pub code-past : (k x r : ℕ) → r ≡ length (take n bytes) → r ≤ k → false ≡ (ltb k (length (take n bytes)) && eqb x (getD (take n bytes) k 0))
-  code-past k x r e h = simp (le-ltb k (length (take n bytes)) (omega arith))
-
 -- ---- in the state
 -- the bytes that hold the lock code
 pub code-long : (s : List ℕ) → length s ≡ stateLength → length (take 16 (drop 12 s)) ≡ 16
@@ -67,3 +58,9 @@ counted-some s long = ap not (eqb-code (getD s 10 0) (take 16 (drop 12 s)) (code
 
 pub code-byte : (s : List ℕ) (k : ℕ) → k < 16 → getD s (12 + k) 0 ≡ getD (take 16 (drop 12 s)) k 0
 code-byte s k h = sym (getD-take 16 (drop 12 s) k 0 h ∙ getD-drop 12 s k 0)
+
+-- the code's byte k, which the program reads in the state
+pub code-read : (s : List ℕ) (k : ℕ) → k < length (codeOf s) → getD s (12 + k) 0 ≡ getD (codeOf s) k 0
+code-read s k h =
+    let inside : k < min (getD s 10 0) (min 16 (length (drop 12 s))) = simp length-take at h in
+    code-byte s k (omega arith) ∙ sym (getD-take (getD s 10 0) (take 16 (drop 12 s)) k 0 (omega arith))

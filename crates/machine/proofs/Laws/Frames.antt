@@ -1,20 +1,18 @@
 -- Laws of the definitions in specs/Frames. Assumes nothing.
-use mathlib.Core.Path.{_≡_, ap, sym, _∙_}
+use mathlib.Core.Path.{_≡_, sym, _∙_}
 use mathlib.Core.Bool.{Bool, true, false, _||_}
-use mathlib.Core.List.{List}
-use Prim.Native.Nat.{ℕ, _+_, _≤_, _<_}
-use native.Mathlib.Omega.{arith}
-use lib.Dec.{eqb}
-use lib.ListN.{length, take, drop, getD}
+use mathlib.Core.List.{_∷_}
+use Prim.Native.Nat.{ℕ}
+use lib.ListN.{length}
 use borrow.Author.Tests.{eq-eqb, ne-eqb}
 use Rattle.translation.specs.ScanCodes.{Translation, translate, raw, builtIn}
 use Rattle.machine.specs.State.{Public, Machine, lift}
+use Rattle.machine.specs.Lock.{longest, begun}
 use Rattle.machine.specs.Lines.{inhibited, mouseInhibited, translates, put, putMouse}
-use Rattle.machine.specs.Frames.{notTaken, positioned, keyError, ignored, matches, completes, unlocked, advanced, try}
+use Rattle.machine.specs.Frames.{notTaken, positioned, keyError, ignored, unlocked, counted, try}
 use Rattle.machine.specs.Frames.{keyedByte, translated}
 use Rattle.machine.specs.Frames.{mousePut, idle, timedOut}
-use Rattle.machine.specs.View.{stateLength, view}
-use Rattle.machine.proofs.Laws.Code.{code-at, code-past, code-long, code-byte}
+use Rattle.machine.proofs.Laws.Lock.{opening-whole, opening-part, reached-part}
 
 -- ---- keyError, keyedByte: what is known of the lock and the key switch
 module _ (m : Machine) {shut off : Bool} (isShut : shut ≡ m .plain .locked) (isOff : off ≡ inhibited (m .plain)) where
@@ -38,39 +36,23 @@ module _ (m : Machine) {shut off : Bool} (isShut : shut ≡ m .plain .locked) (i
   unfolding keyedByte
   keyedByte-put x h l = simp (sym isOff ∙ h, sym isShut ∙ l)
 
--- ---- matches: the program reads the code's byte in the state
-module _ (s : List ℕ) (x : ℕ) {n : ℕ} (long : length s ≡ stateLength) (isLength : n ≡ length (view s .secret .code)) where
-  pub matches-within : n ≤ 16 → getD s 11 0 < n → eqb x (getD s (12 + getD s 11 0) 0) ≡ matches x (view s)
-  matches-within most h =
-      ap (eqb x) (code-byte s (getD s 11 0) (omega arith))
-      ∙ code-at (getD s 10 0) (take 16 (drop 12 s)) (code-long s long) (getD s 11 0) x n isLength h
-
-  pub matches-past : n ≤ getD s 11 0 → false ≡ matches x (view s)
-  matches-past h = code-past (getD s 10 0) (take 16 (drop 12 s)) (code-long s long) (getD s 11 0) x n isLength h
-
--- ---- advanced
-module _ (m : Machine) {last : Bool} (isLast : last ≡ completes m) where
-  pub advanced-last : last ≡ true → unlocked m ≡ advanced m
-  unfolding advanced
-  advanced-last h = simp (sym isLast ∙ h)
-
-  pub advanced-more : {k : ℕ} → last ≡ false → k ≡ m .secret .position + 1 → positioned k m ≡ advanced m
-  unfolding advanced
-  advanced-more h next = simp (sym isLast ∙ h, next)
-
 -- ---- try
 module _ (m : Machine) (x : ℕ) {none : Bool} (isNone : none ≡ ignored x (m .plain)) where
   pub try-ignored : none ≡ true → m ≡ try x m
   unfolding try
   try-ignored h = simp (sym isNone ∙ h)
 
-  pub try-right : {right : Bool} → none ≡ false → right ≡ matches x m → right ≡ true → advanced m ≡ try x m
-  unfolding try
-  try-right h isRight r = simp (sym isNone ∙ h, sym isRight ∙ r)
+  -- k is the longest beginning, of all the code, that the keys end with
+  module _ {k : ℕ} (isLongest : k ≡ longest (m .secret .code) (length (m .secret .code)) (x ∷ begun (m .secret .code) (m .secret .position))) where
+    pub try-opens : {n : ℕ} → none ≡ false → n ≡ length (m .secret .code) → k ≡ n → unlocked m ≡ try x m
+    unfolding try counted
+    try-opens h whole e = simp (sym isNone ∙ h, opening-whole (m .secret .code) _ isLongest (e ∙ whole))
 
-  pub try-wrong : {right : Bool} → none ≡ false → right ≡ matches x m → right ≡ false → positioned 0 m ≡ try x m
-  unfolding try
-  try-wrong h isRight r = simp (sym isNone ∙ h, sym isRight ∙ r)
+    pub try-moves : {n : ℕ} → none ≡ false → n ≡ length (m .secret .code) → (k ≡ n → ⊥) → positioned k m ≡ try x m
+    unfolding try counted
+    try-moves h whole f =
+        let part : k ≡ length (m .secret .code) → ⊥ = λ e. f (e ∙ sym whole) in
+        simp (sym isNone ∙ h, opening-part (m .secret .code) _ isLongest part, sym (reached-part (m .secret .code) _ isLongest part))
 
 -- ---- translated
 module _ (p : Public) (b : ℕ) {t : Translation} {translating shut : Bool} (isOn : translating ≡ translates p) (isShut : shut ≡ p .locked) where

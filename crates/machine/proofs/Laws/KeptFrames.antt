@@ -1,21 +1,22 @@
 -- What arrives from the keyboard, the mouse and the wire keeps the body rules.
 -- Assumes nothing.
-use Prim.Native.Nat.{ℕ, _+_, _<_}
+use Prim.Native.Nat.{ℕ, _<_}
 use mathlib.Core.Path.{_≡_, refl}
 use mathlib.Core.Bool.{Bool, true, false, _||_}
+use mathlib.Core.List.{List}
 use native.Mathlib.Omega.{arith}
 use lib.Dec.{eqb}
-use lib.ListN.{length}
-use borrow.Author.Tests.{eqb-false}
 use Rattle.translation.specs.Frames.{Check, sound, parity, broken, noise}
 use Rattle.translation.specs.ScanCodes.{Translation, Yielded, nothing, byte, raw}
 use Rattle.translation.proofs.ScanCodes.{translate-builtIn-below}
 use Rattle.machine.specs.State.{Public, Machine, lift}
 use Rattle.machine.specs.Lines.{inhibited, mouseInhibited, translates}
-use Rattle.machine.specs.Frames.{notTaken, positioned, keyError, damagedKey, ignored, matches, completes, opened}
-use Rattle.machine.specs.Frames.{unlocked, advanced, try, keyed, keyedByte, translated, soundKey, keyboardFrame}
+use Rattle.machine.specs.Frames.{notTaken, positioned, keyError, damagedKey, ignored, opened}
+use Rattle.machine.specs.Frames.{unlocked, counted, try, keyed, keyedByte, translated, soundKey, keyboardFrame}
 use Rattle.machine.specs.Frames.{mousePut, mouseFrame, idle, taken, timedOut, pinned}
+use Rattle.machine.specs.Lock.{opening, shorter, reached}
 use Rattle.machine.specs.Kept.{Kept}
+use Rattle.machine.proofs.Laws.Lock.{longest-below}
 use Rattle.machine.proofs.Laws.Cond.{cond-holds, cond-both, not-both}
 use Rattle.machine.proofs.Laws.KeptParts.{withErrors-kept, withBreaks-kept, withPorts-kept, withSending-kept, withLock-kept}
 use Rattle.machine.proofs.Laws.KeptLines.{KeptWith, put-kept, putMouse-kept, putCell-kept}
@@ -33,17 +34,16 @@ module _ {m : Machine} (k : Kept m) where
   unlocked-kept = putCell-kept opened-kept 0x14
 
   module _ (l : m .plain .locked ≡ true) where
-    pub positioned-next-kept : completes m ≡ false → Kept (positioned (m .secret .position + 1) m)
-    positioned-next-kept more =
+    pub positioned-reached-kept : (keys : List ℕ) → Kept (positioned (reached (m .secret .code) keys) m)
+    positioned-reached-kept keys =
         let inside = k .locked l in
-        let next : m .secret .position + 1 ≡ length (m .secret .code) → ⊥ = eqb-false _ _ more in
-        withLock-kept k (m .plain .locked) _ (λ _. (omega arith, inside .1, inside .2), λ u. not-both l u)
+        let below = longest-below (m .secret .code) keys (shorter (m .secret .code)) in
+        withLock-kept k (m .plain .locked) _ (λ _. (omega (arith, below, inside .0), inside .1, inside .2), λ u. not-both l u)
 
     pub try-kept : (x : ℕ) → Kept (try x m)
-    unfolding try advanced
+    unfolding try counted
     try-kept x =
-        cond-both Kept (ignored x (m .plain)) k
-        (cond-both Kept (matches x m) (cond-holds Kept (completes m) (λ _. unlocked-kept) positioned-next-kept) positioned-zero-kept)
+        cond-both Kept (ignored x (m .plain)) k (cond-both Kept (opening _ _) unlocked-kept (positioned-reached-kept _))
 
 -- ---- keyError, damagedKey
 pub keyError-kept : {m : Machine} → Kept m → Kept (lift keyError m)

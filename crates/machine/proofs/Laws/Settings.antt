@@ -10,7 +10,7 @@ use Rattle.machine.specs.State.{Public, Machine, fresh}
 use Rattle.machine.specs.Lines.{putCell}
 use Rattle.machine.specs.DataPort.{plainData, loadByte, writeData}
 use Rattle.machine.specs.Commands.{loadCut, plainCommand, codeAsked, lockedUp, acts, writeCommand}
-use Rattle.machine.specs.Frames.{keyError, advanced, try, keyed, keyedByte, soundKey}
+use Rattle.machine.specs.Frames.{keyError, counted, try, keyed, keyedByte, soundKey}
 use Rattle.machine.specs.Frames.{keyboardFrame, mousePut, mouseFrame, timedOut}
 use Rattle.machine.specs.Events.{Event, accept, step}
 use Rattle.machine.specs.Run.{after}
@@ -81,7 +81,7 @@ module _ (m : Machine) where
   acts-settings c = simp (of-machine, putCell-settings, plainCommand-settings, same)
 
   try-settings : (x : ℕ) → try x m .plain .settings ≡ m .plain .settings
-  unfolding try advanced
+  unfolding try counted
   try-settings x = simp (of-machine, putCell-settings, same)
 
   keyed-settings : (y : Yielded) → keyed y m .plain .settings ≡ m .plain .settings

@@ -1,4 +1,4 @@
--- Every row of the table of worked examples holds: the machine of the definitions, run from fresh on the row's events, computes to what
+-- Every row of the tables of worked examples holds: the machine of the definitions, run from fresh on the row's events, computes to what
 -- the row says. Assumes nothing.
 use mathlib.Core.Path.{_≡_, refl}
 use mathlib.Core.Bool.{true}
@@ -8,14 +8,21 @@ use Rattle.machine.specs.State.{fresh}
 use Rattle.machine.specs.Lines.{nibble, highNibble, status, putCell}
 use Rattle.machine.specs.DataPort.{plainData, loadByte, writeData}
 use Rattle.machine.specs.Commands.{pendingOf, loadCut, plainCommand, codeAsked, lockedUp, acts, writeCommand}
-use Rattle.machine.specs.Frames.{keyError, advanced, try, keyedByte, keyed, translated, soundKey, keyboardFrame}
+use Rattle.machine.specs.Lock.{endWith, longest, begun}
+use Rattle.machine.specs.Frames.{keyError, counted, try, keyedByte, keyed, translated, soundKey, keyboardFrame}
 use Rattle.machine.specs.Events.{stateRefusal, refusal, accept, step, reply}
 use Rattle.machine.specs.Run.{after}
-use Rattle.machine.specs.Worked.{holds, allHold, table}
+use Rattle.machine.specs.Worked.{holds, allHold, table, slips}
 
-pub worked : allHold table ≡ true
+both-tables : (allHold table ≡ true) × (allHold slips ≡ true)
 unfolding check ones frame translate raw builtIn rows fresh nibble highNibble status putCell
     plainData loadByte writeData pendingOf loadCut plainCommand codeAsked lockedUp acts writeCommand
-    keyError advanced try keyedByte keyed translated soundKey keyboardFrame
-    stateRefusal refusal accept step reply after holds allHold table
-worked = refl
+    keyError endWith longest begun counted try keyedByte keyed translated soundKey keyboardFrame
+    stateRefusal refusal accept step reply after holds allHold table slips
+both-tables = (refl, refl)
+
+pub worked : allHold table ≡ true
+worked = both-tables .0
+
+pub worked-slips : allHold slips ≡ true
+worked-slips = both-tables .1

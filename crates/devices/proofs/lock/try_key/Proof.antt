@@ -1,8 +1,8 @@
--- `devices::lock::try_key` meets its contract. The two tests are the definition's; a key that matches stands below the sixteenth place.
+-- `devices::lock::try_key` meets its contract. The longest beginning that `reach` finds is the whole code exactly if the lock opens by the rule.
 -- Assumes nothing.
 use borrow.Author.Needs.{needs}
-use Rattle.machine.proofs.Laws.Changed.{by-rule, untouched}
-use Rattle.machine.proofs.Laws.Frames.{try-ignored, try-right, try-wrong}
+use Rattle.machine.proofs.Laws.Changed.{by-rule, by-two, untouched}
+use Rattle.machine.proofs.Laws.Frames.{try-ignored, try-opens, try-moves}
 use Rattle.devices.proofs.lock.try_key.Statement.{statement}
 use Rattle.devices.proofs.lock.try_key.Tie as tie
 
@@ -12,20 +12,29 @@ ignored-requires c κs = search needs
 returns : tie.Need-returns
 returns c = search (untouched, try-ignored)
 
-matches-requires : tie.Need-matches-requires
-matches-requires c κs = search needs
+reach-requires : tie.Need-reach-requires
+reach-requires c κs = search needs
 
-advance-requires : tie.Need-advance-requires
-advance-requires c κs = c .before .before .matches .ensures .1 (c .before .if2 .taken)
+cast-k : tie.Need-cast-k
+cast-k c = search needs
+
+code-length-requires : tie.Need-code-length-requires
+code-length-requires c κs = search needs
+
+open-lock-requires : tie.Need-open-lock-requires
+open-lock-requires c κs = search needs
+
+put-cell-requires : tie.Need-put-cell-requires
+put-cell-requires c κs = search needs
 
 set-position-requires : tie.Need-set-position-requires
 set-position-requires c κs = search needs
 
 returns-2 : tie.Need-returns-2
-returns-2 c = search (by-rule, try-right)
+returns-2 c = search (by-two, try-opens)
 
 returns-3 : tie.Need-returns-3
-returns-3 c = search (by-rule, try-wrong)
+returns-3 c = search (by-rule, try-moves)
 
 pub try-key-spec : {M : Type 1} → statement M
 try-key-spec =
@@ -33,8 +42,11 @@ try-key-spec =
     (tie.spec
     ignored-requires
     returns
-    matches-requires
-    advance-requires
+    reach-requires
+    cast-k
+    code-length-requires
+    open-lock-requires
+    put-cell-requires
     set-position-requires
     returns-2
     returns-3)

@@ -1,0 +1,42 @@
+-- Document 02, W5: the keys that a lock has counted, the newest first, and when they open it.
+use Prim.Native.Nat.{ℕ, zero, suc, _-_}
+use mathlib.Core.Bool.{Bool, true, false, cond, _&&_}
+use mathlib.Core.List.{List, [], _∷_, reverse}
+use lib.ListN.{length, take}
+use lib.Dec.{eqb}
+
+abbrev pub same : List ℕ → List ℕ → Bool
+same [] [] = true
+same [] (y ∷ ys) = false
+same (x ∷ xs) [] = false
+same (x ∷ xs) (y ∷ ys) = eqb x y && same xs ys
+
+-- The last keys counted, as many as these bytes, are these bytes.
+unfoldable pub endWith : List ℕ → List ℕ → Bool
+endWith keys bytes = same (take (length bytes) keys) (reverse bytes)
+
+-- The rule: the newest key opens the lock exactly if the keys end with the code.
+abbrev pub opening : List ℕ → List ℕ → Bool
+opening code keys = endWith keys code
+
+-- the longest beginning of the code, of at most n bytes, that the keys end with
+unfoldable pub longest : List ℕ → ℕ → List ℕ → ℕ
+longest code zero keys = zero
+longest code (suc n) keys = cond (endWith keys (take (suc n) code)) (suc n) (longest code n keys)
+
+-- how many bytes a beginning has at most that is shorter than the code
+abbrev pub shorter : List ℕ → ℕ
+shorter code = length code - 1
+
+-- The position that keys lead to: the longest such beginning that is shorter than the code.
+abbrev pub reached : List ℕ → List ℕ → ℕ
+reached code keys = longest code (shorter code) keys
+
+-- The keys that a position stands for, those counted after a load of it: the code's first bytes, as many.
+unfoldable pub begun : List ℕ → ℕ → List ℕ
+begun code k = reverse (take k code)
+
+-- The position after keys that come one by one at position k: each leads from the keys that the position before it stands for.
+unfoldable pub positionAfter : List ℕ → ℕ → List ℕ → ℕ
+positionAfter code k [] = k
+positionAfter code k (x ∷ keys) = reached code (x ∷ begun code (positionAfter code k keys))
