@@ -53,7 +53,7 @@ pub record Public : Type 0 where
   pub ram : List ℕ
   pub settings : Settings
 
--- The lock code, the paper's password, and the position: how many of its bytes have been typed.
+-- The lock code, the paper's password, and the position: how many of its first bytes the keys counted end with (document 02, W5).
 pub record Secret : Type 0 where
   pub code : List ℕ
   pub position : ℕ

@@ -35,7 +35,7 @@ pub const SENT_TO: usize = 8;
 
 pub const SENT: usize = 9;
 
-// How long the lock code is, how much of it has been typed, and its bytes.
+// How long the lock code is, how many of its first bytes the keys typed end with, and its bytes.
 pub const LENGTH: usize = 10;
 
 pub const POSITION: usize = 11;
