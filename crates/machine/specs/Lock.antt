@@ -1,4 +1,5 @@
--- Document 02, W5: the keys that a lock has counted, the newest first, and when they open it.
+-- Document 02, W5: the keys that a lock has counted, the newest first, and when they open it. A beginning is a prefix of the code, and to end with
+-- it is to have it as a suffix.
 use Prim.Native.Nat.{ℕ, zero, suc, _-_}
 use mathlib.Core.Bool.{Bool, true, false, cond, _&&_}
 use mathlib.Core.List.{List, [], _∷_, reverse}

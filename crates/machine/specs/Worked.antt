@@ -116,7 +116,7 @@ table =
     loads 16 true ∷
     loads 17 false ∷ []
 
--- Document 02, W5: the code is the keys A A B. One A too many, and A B before it, keep no code from opening the lock.
+-- Document 02, W5: the code is the keys A A B, and before it comes one A too many, or A B.
 unfoldable pub slips : List Row
 slips =
     opens (0x1E ∷ 0x1E ∷ 0x30 ∷ []) (0x1C ∷ 0x1C ∷ 0x1C ∷ 0x32 ∷ []) ∷
