@@ -14,7 +14,7 @@ ghost use Prim.Native.Nat.{_≤_};
 ghost use lib.ListN.{length, take};
 ghost use Rattle.machine.specs.Lock as lock;
 ghost use Rattle.machine.specs.Frames as frame;
-ghost use Rattle.machine.specs.View.{public, codeOf, view};
+ghost use Rattle.machine.specs.View.{public, codeOf, at};
 ghost use Rattle.machine.specs.Changed.{Changed};
 
 pub(crate) fn set_position(s: &mut State, k: u8)
@@ -70,7 +70,7 @@ fn fall_back(s: &State, x: u8, k: usize) -> usize
 
 // The longest beginning of the code, the whole of it too, that the keys counted and then x end with.
 fn reach(s: &State, x: u8) -> usize
-    ensures { λ r. ⌜ (let m = view (now (s .entry)) in r ≡ lock.longest (m .secret .code) (length (m .secret .code)) (x ∷ frame.keys m)) × (r ≤ 16) ⌝ }
+    ensures { λ r. ⌜ (let code = codeOf (now (s .entry)) in r ≡ lock.longest code (length code) (x ∷ lock.begun code (at (now (s .entry)) 11))) × (r ≤ 16) ⌝ }
 {
     sized(*s);
     let n = code_length(s);

@@ -1,7 +1,6 @@
 -- "Events", kinds 4 to 8: what arrives from the keyboard, the mouse and the wire, and a try at the lock.
 use Prim.Native.Nat.{ℕ}
 use mathlib.Core.Bool.{Bool, true, false, cond, not, _||_}
-use mathlib.Core.List.{List, _∷_}
 use lib.Dec.{eqb}
 use Rattle.translation.specs.Bits.{has}
 use Rattle.translation.specs.Frames.{Check, sound, parity, broken, noise}
@@ -9,7 +8,7 @@ use Rattle.translation.specs.ScanCodes.{Translation, Yielded, nothing, byte, tr
 use Rattle.machine.specs.State.{Public, Machine, withErrors, withPorts, withBreaks, withLocked, lift, withSecret}
 use Rattle.machine.specs.Lines.{atMode, put, putMouse, putCell, cellOf, inhibited, mouseInhibited, translates}
 use Rattle.machine.specs.DataPort.{send}
-use Rattle.machine.specs.Lock.{opening, reached, begun}
+use Rattle.machine.specs.Lock.{keyOpens, keyLeads}
 
 -- The error bits after a frame that is no noise: a broken one sets TERR, a wrong parity PERR, and the others are cleared.
 abbrev pub errorsSet : Bool → Bool → Public → Public
@@ -45,15 +44,12 @@ opened m = record { plain = withLocked (m .plain) false; secret = record { code 
 abbrev pub unlocked : Machine → Machine
 unlocked m = lift (putCell 0x14) (opened m)
 
--- The keys counted, as far as the position tells them.
-abbrev pub keys : Machine → List ℕ
-keys m = begun (m .secret .code) (m .secret .position)
-
--- A key that counts: the lock opens by the rule, or the position is the one that the keys with this one behind them lead to.
+-- A key that counts: it opens the lock, or leads to another position.
 unfoldable pub counted : ℕ → Machine → Machine
 counted x m =
     let code = m .secret .code in
-    cond (opening code (x ∷ keys m)) (unlocked m) (positioned (reached code (x ∷ keys m)) m)
+    let k = m .secret .position in
+    cond (keyOpens code k x) (unlocked m) (positioned (keyLeads code k x) m)
 
 -- A key while locked, the paper's try.
 unfoldable pub try : ℕ → Machine → Machine

@@ -37,7 +37,14 @@ reached code keys = longest code (shorter code) keys
 unfoldable pub begun : List ℕ → ℕ → List ℕ
 begun code k = reverse (take k code)
 
--- The position after keys that come one by one at position k: each leads from the keys that the position before it stands for.
+-- One key more behind those that position k stands for: whether it opens the lock, and the position that it leads to.
+abbrev pub keyOpens : List ℕ → ℕ → ℕ → Bool
+keyOpens code k x = opening code (x ∷ begun code k)
+
+abbrev pub keyLeads : List ℕ → ℕ → ℕ → ℕ
+keyLeads code k x = reached code (x ∷ begun code k)
+
+-- the position after keys that come one by one at position k
 unfoldable pub positionAfter : List ℕ → ℕ → List ℕ → ℕ
 positionAfter code k [] = k
-positionAfter code k (x ∷ keys) = reached code (x ∷ begun code (positionAfter code k keys))
+positionAfter code k (x ∷ keys) = keyLeads code (positionAfter code k keys) x

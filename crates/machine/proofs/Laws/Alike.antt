@@ -17,7 +17,7 @@ use Rattle.machine.specs.DataPort.{settled, dataWritten, plainData, drop
 use Rattle.machine.specs.Commands.{understood, commandWritten, loadCut, plainCommand, hasCode, codeAsked, closed, lockedUp, acts, writeCommand}
 use Rattle.machine.specs.Frames.{errorsSet, positioned, keyError, breaking, damagedKey, ignored, unlocked, counted, try}
 use Rattle.machine.specs.Frames.{keyed, keyedByte, translated, soundKey, keyboardFrame, mouseFrame, taken, timedOut, pinned}
-use Rattle.machine.specs.Lock.{opening}
+use Rattle.machine.specs.Lock.{keyOpens}
 use Rattle.machine.specs.Events.{Event, value, limit, refusal, emptied, accept, step, pulse, reply, answer}
 use Rattle.machine.proofs.Laws.Events.{accept-keyboard}
 
@@ -125,7 +125,7 @@ try-tried : (x : ℕ) (m : Machine) → m .plain .locked ≡ true → Tried m (t
 unfolding try counted
 try-tried x m locked =
     let stays : (k : ℕ) → Tried m (positioned k m) = λ k. positioned-tried k m locked in
-    cond-tried (ignored x (m .plain)) (stays (m .secret .position)) (cond-tried (opening _ _) (unlocked-tried m) (stays _))
+    cond-tried (ignored x (m .plain)) (stays (m .secret .position)) (cond-tried (keyOpens _ _ x) (unlocked-tried m) (stays _))
 
 -- a byte that comes while locked
 keyed-tried : (x : ℕ) (m : Machine) → m .plain .locked ≡ true → Tried m (keyed (byte x) m)

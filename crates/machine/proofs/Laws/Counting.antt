@@ -2,7 +2,7 @@
 -- Assumes nothing.
 use Prim.Native.Nat.{ℕ}
 use mathlib.Core.Path.{_≡_, refl, ap, sym, _∙_, subst}
-use mathlib.Core.Bool.{Bool, true, false, cond, not, _||_, or-true, and-false}
+use mathlib.Core.Bool.{Bool, true, false, cond, not, _||_, and-false}
 use mathlib.Core.List.{List, [], _∷_}
 use lib.Dec.{eqb, leb}
 use lib.ListN.{length}
@@ -15,7 +15,7 @@ use Rattle.machine.specs.State.{Public, Secret, Machine, fresh, lift}
 use Rattle.machine.specs.Lines.{inhibited, put}
 use Rattle.machine.specs.DataPort.{loadByte, writeData}
 use Rattle.machine.specs.Commands.{hasCode, loadCut, codeAsked, lockedUp, acts, writeCommand}
-use Rattle.machine.specs.Lock.{opening, reached, begun}
+use Rattle.machine.specs.Lock.{opening, reached, begun, keyOpens, keyLeads}
 use Rattle.machine.specs.Frames.{errorsSet, breaking, ignored, keyError, damagedKey, counted, try, keyed, keyedByte}
 use Rattle.machine.specs.Frames.{translated, soundKey, keyboardFrame, mousePut, mouseFrame, timedOut}
 use Rattle.machine.specs.Events.{Event, value, isWrite, refusal, accept, step}
@@ -25,7 +25,7 @@ use Rattle.machine.specs.Counting.{Counting, counts, starts, passes, byt
 use Rattle.machine.specs.Counting.{keysWith, opensWith, keysAfter, ByRule}
 use Rattle.machine.proofs.Laws.Cond.{cond-holds, cond-both, not-both}
 use Rattle.machine.proofs.Laws.Lock.{reached-none, reached-begun, reached-next, opening-next}
-use Rattle.machine.proofs.Laws.Events.{accepted-write, accept-keyboard, step-accepted, step-refused}
+use Rattle.machine.proofs.Laws.Events.{accepted-write, accept-keyboard, accept-holds, step-accepted, step-refused}
 use Rattle.machine.proofs.Laws.Alike.{putCell-locked}
 use Rattle.machine.proofs.Laws.Kept.{keeps, fresh-kept}
 
@@ -57,18 +57,12 @@ module _ (m : Machine) (l : m .plain .locked ≡ true) where
   timedOut-locked = cond-both (λ (p : Public). p .locked ≡ true) (eqb (m .plain .sending .to) 2) l l
 
   other-stays : (e : Event) → (e .kind ≡ 4 → ⊥) → refusal (m .plain) e ≡ 0 → Stays m (accept m e)
-  unfolding accept
   other-stays e other a =
-      let stays : Stays m m = record { locked = l; secret = refl } in
       let write : isWrite (e .kind) ≡ true → ⊥ = λ w. not-both l (accepted-write (m .plain) e a w .1) in
-      cond-both (Stays m) (eqb (e .kind) 0) (record { locked = l; secret = refl })
-      (cond-holds (Stays m) (eqb (e .kind) 1) (λ h. absurd (write (simp h))) λ _.
-      cond-holds (Stays m) (eqb (e .kind) 3) (λ h. absurd (write (simp (h, or-true)))) λ _.
-      cond-holds (Stays m) (eqb (e .kind) 4) (λ h. absurd (other (eqb-true _ _ h))) λ _.
-      cond-both (Stays m) (eqb (e .kind) 5) (record { locked = mouseFrame-locked _; secret = refl })
-      (cond-both (Stays m) (eqb (e .kind) 6) (record { locked = l; secret = refl })
-      (cond-both (Stays m) (eqb (e .kind) 7) (record { locked = timedOut-locked; secret = refl })
-      (cond-both (Stays m) (eqb (e .kind) 8) (record { locked = l; secret = refl }) stays))))
+      accept-holds m e (Stays m) (record { locked = l; secret = refl }) (record { locked = l; secret = refl })
+      (λ k. absurd (write (simp k))) (λ k. absurd (write (simp k))) (λ k. absurd (other k))
+      (record { locked = mouseFrame-locked (check (value e)); secret = refl }) (record { locked = l; secret = refl })
+      (record { locked = timedOut-locked; secret = refl }) (λ _. record { locked = l; secret = refl })
 
 -- ---- where the position before is the one that the keys lead to
 module _ (keys : List ℕ) where
@@ -85,11 +79,10 @@ module _ (keys : List ℕ) where
   unfolding counted keysWith opensWith
   counts-left x m l f =
       let code = m .secret .code in
-      let opens : opening code (x ∷ begun code (m .secret .position)) ≡ opening code (x ∷ keys) =
-      ap (λ (k : ℕ). opening code (x ∷ begun code k)) f ∙ sym (opening-next code keys x) in
-      let leads : reached code (x ∷ begun code (m .secret .position)) ≡ reached code (x ∷ keys) =
-      ap (λ (k : ℕ). reached code (x ∷ begun code k)) f ∙ sym (reached-next code keys x) in
-      cond-holds (Left code keys (counts x)) (opening code (x ∷ begun code (m .secret .position)))
+      let k = m .secret .position in
+      let opens : keyOpens code k x ≡ opening code (x ∷ keys) = ap (λ (n : ℕ). keyOpens code n x) f ∙ sym (opening-next code keys x) in
+      let leads : keyLeads code k x ≡ reached code (x ∷ keys) = ap (λ (n : ℕ). keyLeads code n x) f ∙ sym (reached-next code keys x) in
+      cond-holds (Left code keys (counts x)) (keyOpens code k x)
       (λ o. record { locked = putCell-locked 0x14 _ ∙ ap not (sym (sym opens ∙ o)); position = λ t. not-both t (putCell-locked 0x14 _) })
       (λ o. record { locked = l ∙ ap not (sym (sym opens ∙ o)); position = λ _. leads })
 
@@ -179,15 +172,11 @@ frame-zero m z u broken = refl
 frame-zero m z u noise = z
 
 step-zero : (m : Machine) → AtZero m → m .plain .locked ≡ false → (e : Event) → AtZero (step m e)
-unfolding step accept writeCommand
+unfolding step writeCommand
 step-zero m z u e =
     cond-both AtZero (eqb (refusal (m .plain) e) 0)
-    (cond-both AtZero (eqb (e .kind) 0) z
-    (cond-both AtZero (eqb (e .kind) 1) (writeData-zero m z (value e))
-    (cond-both AtZero (eqb (e .kind) 3) (acts-zero _ (loadCut-zero m z) _)
-    (cond-both AtZero (eqb (e .kind) 4) (frame-zero m z u (check (value e)))
-    (cond-both AtZero (eqb (e .kind) 5) z
-    (cond-both AtZero (eqb (e .kind) 6) z (cond-both AtZero (eqb (e .kind) 7) z (cond-both AtZero (eqb (e .kind) 8) z z))))))))
+    (accept-holds m e AtZero z z (λ _. writeData-zero m z (value e)) (λ _. acts-zero _ (loadCut-zero m z) _)
+    (λ _. frame-zero m z u (check (value e))) z z z (λ _. z))
     z
 
 -- ---- one event, and a list of them

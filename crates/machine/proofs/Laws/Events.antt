@@ -15,7 +15,7 @@ use Rattle.machine.specs.Commands.{writeCommand}
 use Rattle.machine.specs.Frames.{keyboardFrame, mouseFrame, taken, timedOut, pinned}
 use Rattle.machine.specs.Events.{Event, event, value, valueOf, isWrite, isFrame, endsSending, limit, fromNoMouse, deviceOff, refusal, stateRefusal}
 use Rattle.machine.specs.Events.{emptied, accept, step, reply, refusedReply, byteRead, oldMark, pulse, lines}
-use Rattle.machine.proofs.Laws.Cond.{cond-zero, and-false, or-false}
+use Rattle.machine.proofs.Laws.Cond.{cond-holds, cond-both, cond-zero, and-false, or-false}
 
 -- ---- refusal
 -- no check stands
@@ -205,3 +205,18 @@ module _ (m : Machine) (e : Event) where
   pub accept-pins : e .kind ≡ 8 → accept m e ≡ lift (pinned (value e)) m
   unfolding accept
   accept-pins k = simp k
+
+  -- what holds of the machine after each kind of event, the status read and unknown kinds leaving it as it is, holds after this one
+  pub accept-holds : (P : Machine → Type 0) → P m → P (lift emptied m) → (e .kind ≡ 1 → P (writeData (value e) m)) →
+      (e .kind ≡ 3 → P (writeCommand (value e) m)) → (e .kind ≡ 4 → P (keyboardFrame (check (value e)) m)) →
+      P (lift (mouseFrame (check (value e))) m) → P (lift taken m) → P (lift timedOut m) → (e .kind ≡ 8 → P (lift (pinned (value e)) m)) →
+      P (accept m e)
+  unfolding accept
+  accept-holds P same read written command keyboard mouse took late pins =
+      cond-both P (eqb (e .kind) 0) read
+      (cond-holds P (eqb (e .kind) 1) (λ k. written (eqb-true _ _ k)) λ _.
+      cond-holds P (eqb (e .kind) 3) (λ k. command (eqb-true _ _ k)) λ _.
+      cond-holds P (eqb (e .kind) 4) (λ k. keyboard (eqb-true _ _ k)) λ _.
+      cond-both P (eqb (e .kind) 5) mouse
+      (cond-both P (eqb (e .kind) 6) took
+      (cond-both P (eqb (e .kind) 7) late (cond-holds P (eqb (e .kind) 8) (λ k. pins (eqb-true _ _ k)) λ _. same))))

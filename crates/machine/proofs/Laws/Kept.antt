@@ -15,9 +15,9 @@ use Rattle.machine.specs.Commands.{writeCommand}
 use Rattle.machine.specs.Frames.{pinned}
 use Rattle.machine.specs.Events.{Event, value, refusal, emptied, accept, step}
 use Rattle.machine.specs.Kept.{Kept}
-use Rattle.machine.proofs.Laws.Cond.{cond-holds, cond-both, not-both}
+use Rattle.machine.proofs.Laws.Cond.{cond-holds, not-both}
 use Rattle.machine.proofs.Laws.Bounds.{getD-zeros}
-use Rattle.machine.proofs.Laws.Events.{accepted-byte, accepted-write}
+use Rattle.machine.proofs.Laws.Events.{accepted-byte, accepted-write, accept-holds}
 use Rattle.machine.proofs.Laws.KeptParts.{RamKept, grouped-kept, withOutput-kept}
 use Rattle.machine.proofs.Laws.KeptDataPort.{writeData-kept}
 use Rattle.machine.proofs.Laws.KeptCommands.{writeCommand-kept}
@@ -61,17 +61,10 @@ module _ {m : Machine} (k : Kept m) (e : Event) (a : refusal (m .plain) e ≡ 0)
   pinsEvent-kept h = pinned-kept k (value e) (omega (arith, accepted-byte _ e a (simp h)))
 
   pub accept-kept : Kept (accept m e)
-  unfolding accept
   accept-kept =
       let sound-below : (b : ℕ) → check (value e) ≡ sound b → b < 256 = λ b s. check-sound _ b s .0 in
-      cond-both Kept (eqb (e .kind) 0) (emptied-kept k)
-      (cond-holds Kept (eqb (e .kind) 1) (λ h. dataEvent-kept (eqb-true _ _ h)) λ _.
-      cond-holds Kept (eqb (e .kind) 3) (λ h. commandEvent-kept (eqb-true _ _ h)) λ _.
-      cond-both Kept (eqb (e .kind) 4) (keyboardFrame-kept k _ sound-below)
-      (cond-both Kept (eqb (e .kind) 5) (mouseFrame-kept k _ sound-below)
-      (cond-both Kept (eqb (e .kind) 6) (taken-kept k)
-      (cond-both Kept (eqb (e .kind) 7) (timedOut-kept k)
-      (cond-holds Kept (eqb (e .kind) 8) (λ h. pinsEvent-kept (eqb-true _ _ h)) λ _. k)))))
+      accept-holds m e Kept k (emptied-kept k) dataEvent-kept commandEvent-kept (λ _. keyboardFrame-kept k _ sound-below)
+      (mouseFrame-kept k _ sound-below) (taken-kept k) (timedOut-kept k) pinsEvent-kept
 
 pub keeps : (m : Machine) (e : Event) → Kept m → Kept (step m e)
 unfolding step

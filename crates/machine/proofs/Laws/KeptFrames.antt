@@ -14,7 +14,7 @@ use Rattle.machine.specs.Lines.{inhibited, mouseInhibited, translates}
 use Rattle.machine.specs.Frames.{notTaken, positioned, keyError, damagedKey, ignored, opened}
 use Rattle.machine.specs.Frames.{unlocked, counted, try, keyed, keyedByte, translated, soundKey, keyboardFrame}
 use Rattle.machine.specs.Frames.{mousePut, mouseFrame, idle, taken, timedOut, pinned}
-use Rattle.machine.specs.Lock.{opening, shorter, reached}
+use Rattle.machine.specs.Lock.{shorter, reached, keyOpens}
 use Rattle.machine.specs.Kept.{Kept}
 use Rattle.machine.proofs.Laws.Lock.{longest-below}
 use Rattle.machine.proofs.Laws.Cond.{cond-holds, cond-both, not-both}
@@ -43,7 +43,7 @@ module _ {m : Machine} (k : Kept m) where
     pub try-kept : (x : ℕ) → Kept (try x m)
     unfolding try counted
     try-kept x =
-        cond-both Kept (ignored x (m .plain)) k (cond-both Kept (opening _ _) unlocked-kept (positioned-reached-kept _))
+        cond-both Kept (ignored x (m .plain)) k (cond-both Kept (keyOpens _ _ x) unlocked-kept (positioned-reached-kept _))
 
 -- ---- keyError, damagedKey
 pub keyError-kept : {m : Machine} → Kept m → Kept (lift keyError m)

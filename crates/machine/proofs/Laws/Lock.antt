@@ -11,7 +11,7 @@ use lib.Dec.{eqb, ltb}
 use borrow.Author.Tests.{eq-eqb, ne-eqb, eqb-true, eqb-false, ltb-true, ltb-false}
 use Rattle.translation.proofs.Tests.{split, and-true}
 use Rattle.machine.proofs.Laws.Cond.{not-both}
-use Rattle.machine.specs.Lock.{endWith, opening, longest, shorter, reached, begun, positionAfter}
+use Rattle.machine.specs.Lock.{endWith, opening, longest, shorter, reached, begun, keyOpens, keyLeads, positionAfter}
 use Rattle.machine.specs.View.{codeOf}
 use Rattle.machine.proofs.Laws.Code.{code-read}
 
@@ -112,10 +112,10 @@ module _ (code : List ℕ) where
     next-alike x zero most = ends-none _ ∙ sym (ends-none _)
     next-alike x (suc j) most = simp (ends-next j most, reached-alike j most)
 
-    pub reached-next : (x : ℕ) → reached code (x ∷ keys) ≡ reached code (x ∷ begun code (reached code keys))
+    pub reached-next : (x : ℕ) → reached code (x ∷ keys) ≡ keyLeads code (reached code keys) x
     reached-next x = longest-same (x ∷ keys) _ (shorter code) (λ j h. next-alike x j (omega arith))
 
-    pub opening-next : (x : ℕ) → opening code (x ∷ keys) ≡ opening code (x ∷ begun code (reached code keys))
+    pub opening-next : (x : ℕ) → opening code (x ∷ keys) ≡ keyOpens code (reached code keys) x
     opening-next x =
         subst (λ (c : List ℕ). endWith (x ∷ keys) c ≡ endWith (x ∷ begun code (reached code keys)) c) (take-length code)
         (next-alike x (length code) (omega arith))
@@ -137,11 +137,11 @@ module _ (code : List ℕ) where
     unfolding positionAfter
     position-after [] = sym (reached-begun k h)
     position-after (x ∷ keys) =
-        ap (λ (n : ℕ). reached code (x ∷ begun code n)) (position-after keys) ∙ sym (reached-next (keys ++ begun code k) x)
+        ap (λ (n : ℕ). keyLeads code n x) (position-after keys) ∙ sym (reached-next (keys ++ begun code k) x)
 
-    pub opening-after : (x : ℕ) (keys : List ℕ) → opening code (x ∷ begun code (positionAfter code k keys)) ≡ opening code (x ∷ (keys ++ begun code k))
+    pub opening-after : (x : ℕ) (keys : List ℕ) → keyOpens code (positionAfter code k keys) x ≡ opening code (x ∷ (keys ++ begun code k))
     opening-after x keys =
-        ap (λ (n : ℕ). opening code (x ∷ begun code n)) (position-after keys) ∙ sym (opening-next (keys ++ begun code k) x)
+        ap (λ (n : ℕ). keyOpens code n x) (position-after keys) ∙ sym (opening-next (keys ++ begun code k) x)
 
   -- ---- one key behind a position
   next-longer : (x k j : ℕ) → suc k < j → j ≤ length code → endWith (x ∷ begun code k) (take j code) ≡ false
