@@ -51,8 +51,8 @@ static void start(struct pair *pair)
 {
     printf("%-28s   PS/2 mode        AT mode\n", "");
     printf("%-28s   rf st p2 pu rd   rf st p2 pu rd\n", "");
-    calugnid_start(pair->ps2, CALUGNID_ORDINARY);
-    calugnid_start(pair->at, CALUGNID_PC_AT);
+    calugnid_start(pair->ps2, CALUGNID_ORDINARY, 0);
+    calugnid_start(pair->at, CALUGNID_PC_AT, 0);
     command(pair, "AA, the self-test", 0xAA);
     command(pair, "60, the command byte", 0x60);
     data(pair, "01, its interrupt on", 0x01);

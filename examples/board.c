@@ -69,7 +69,7 @@ static void board_start(struct board *board)
     board->keyboard.kind = CALUGNID_KEYBOARD_FRAME;
     board->mouse.name = "mouse";
     board->mouse.kind = CALUGNID_MOUSE_FRAME;
-    calugnid_start(board->state, CALUGNID_ORDINARY);
+    calugnid_start(board->state, CALUGNID_ORDINARY, 0);
     calugnid_lines(board->state, lines);
     board->p2 = lines[CALUGNID_AT_P2];
 }

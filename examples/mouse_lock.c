@@ -70,8 +70,8 @@ static void start(struct pair *pair)
 {
     printf("%-28s   ordinary   mouse lock\n", "");
     printf("%-28s   st p2 rd   st p2 rd\n", "");
-    calugnid_start(pair->ordinary, CALUGNID_ORDINARY);
-    calugnid_start(pair->locking, CALUGNID_MOUSE_LOCK);
+    calugnid_start(pair->ordinary, CALUGNID_ORDINARY, 0);
+    calugnid_start(pair->locking, CALUGNID_MOUSE_LOCK, 0);
     set_command_byte(pair, BOTH_INTERRUPTS);
     compare(pair, "the mouse sends 08", CALUGNID_MOUSE_FRAME, calugnid_frame(0x08));
 }

@@ -23,7 +23,7 @@ int main(void)
     uint8_t answers[3 * CALUGNID_ANSWER_BYTES];
     uint8_t image[CALUGNID_IMAGE_BYTES];
 
-    calugnid_start(state, CALUGNID_ORDINARY);
+    calugnid_start(state, CALUGNID_ORDINARY, 0);
     if (calugnid_run_state(state, self_test, sizeof self_test,
                            answers, sizeof answers) != CALUGNID_ACCEPTED)
         return 1;

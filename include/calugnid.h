@@ -4,13 +4,14 @@
  * A controller is a state of CALUGNID_STATE_BYTES bytes that the caller keeps
  * and lends to each call. The library has no memory of its own, allocates
  * nothing and prints nothing. Make a state by calugnid_start or calugnid_load
- * and change it by calls only. On any other 64 bytes a call still ends and
+ * and change it by calls only. On any other 65 bytes a call still ends and
  * stays inside what it is lent, but its answers promise nothing.
  *
- * Settings, such as mouse lock and AT mode, are named at the start and stand
- * in the state. No event changes them. An image of edition 1 has no room for
- * them, nor for what AT mode adds: a save leaves them out, and a load gives
- * the ordinary settings, which are those of PS/2 mode.
+ * Settings, such as mouse lock, AT mode, the command set and the version byte,
+ * are named at the start and stand in the state. No event changes them. An image
+ * of edition 1 has no room for them, nor for what AT mode and the second command
+ * set add: a save leaves them out, and a load gives the ordinary settings, which
+ * are those of PS/2 mode with the first command set, and the version byte 0.
  *
  * What a caller owes:
  * - Pointers to valid memory of the size named, not null even where a length
@@ -26,8 +27,8 @@
  * - The byte read stands in the answer to the read. Take it before the next
  *   frame is fed: each event writes all nine bytes.
  * - A device keeps its frame until calugnid_refusal says 0 for it.
- * - A load gives the ordinary settings, and no call sets mouse lock or AT mode
- *   on a controller that runs. A board that must not lose them does not load.
+ * - A load gives the ordinary settings, and no call changes the settings of a
+ *   controller that runs. A board that must not lose them does not load.
  * - A frame that mouse lock keeps back is lost: the refusal is 0, so the mouse
  *   does not send it again. This holds for replies of the mouse too.
  * - A frame with a wrong start bit is noise. Feed it or drop it: the event
@@ -49,7 +50,7 @@ extern "C" {
 
 /* Sizes in bytes. */
 enum {
-    CALUGNID_STATE_BYTES = 64,
+    CALUGNID_STATE_BYTES = 65,
     CALUGNID_IMAGE_BYTES = 68,
     CALUGNID_EVENT_BYTES = 3,   /* in a list: kind, value low, value high */
     CALUGNID_ANSWER_BYTES = 9,
@@ -69,11 +70,25 @@ enum {
  * are refused by 12. Commands A4h-A9h, C1h, C2h and D2h-D4h do nothing, so
  * there is no lock code either. D1h writes bits 0-3 and 5 of P2, F0h-FFh pulse
  * bits 0-3, and E0h puts 1 in bit 0 and keyboard not off in bit 1. Status and
- * P2 have other bits, see below. */
+ * P2 have other bits, see below.
+ *
+ * The second command set is that of the VT82C42, in either mode. P10-P15 have
+ * latches then, and such a line reads 1 exactly if its pin and its latch are 1.
+ * - 90h-9Fh write their low four bits to P13-P10. B0h-B3h, B6h and B7h write 0,
+ *   B8h-BBh, BEh and BFh write 1, to P10-P13, P14 and P15; B4h, B5h, BCh and BDh
+ *   do so for P22 and P23.
+ * - E1h-EFh set P23-P21 from bits 3-1. C8h lets D1h write P22 and P23, C9h
+ *   forbids it, as a start does. P22 and P23 show on P2 in AT mode alone.
+ * - A1h and AFh put the version byte that the start was given, which may be any;
+ *   CAh puts 1 in PS/2 mode and 0 in AT mode.
+ * - C1h and C2h show P11-P13 and P15-P17 in status bits 5-7; bit 4 remains pin 7.
+ * - A4h puts F1h, and A5h and A6h do nothing, so there is no lock code.
+ * With the first set the version byte is kept in the state and never shows. */
 enum {
     CALUGNID_ORDINARY = 0,      /* none of the settings below */
     CALUGNID_MOUSE_LOCK = 0x01, /* the key switch keeps the mouse back too */
-    CALUGNID_PC_AT = 0x02       /* AT mode, else PS/2 mode */
+    CALUGNID_PC_AT = 0x02,      /* AT mode, else PS/2 mode */
+    CALUGNID_SECOND_SET = 0x04  /* the VT82C42's commands, else the first set */
 };
 
 /* Kinds of events, and the largest value that each takes. */
@@ -121,8 +136,8 @@ enum {
     CALUGNID_AT_FRAME_HIGH = 8
 };
 
-/* Status bits. Commands C1h and C2h show pins in place of the upper four
- * until the next command. */
+/* Status bits. Commands C1h and C2h show lines of P1 in place of the upper four
+ * until the next command; with the second command set in place of bits 5-7. */
 enum {
     CALUGNID_STATUS_OBF = 0x01,    /* output buffer full */
     CALUGNID_STATUS_IBF = 0x02,    /* input buffer full: a byte is being sent */
@@ -175,10 +190,11 @@ enum {
     CALUGNID_BREAK_FLAG = 0x200
 };
 
-/* ---- A controller that a board keeps: `state` is 64 bytes, `answer` is 9. */
+/* ---- A controller that a board keeps: `state` is 65 bytes, `answer` is 9. */
 
-/* Makes a fresh controller with the settings that `options` names. */
-void calugnid_start(uint8_t *state, uint8_t options);
+/* Makes a fresh controller with the settings that `options` names, and with
+ * this version byte. */
+void calugnid_start(uint8_t *state, uint8_t options, uint8_t version);
 
 /* One event. A refused event leaves the state as it was, and its answer holds
  * the refusal and the unchanged lines. */
@@ -196,7 +212,8 @@ void calugnid_run_fitting(uint8_t *state, const uint8_t *list, size_t list_lengt
                           uint8_t *answers, size_t answers_length);
 
 /* Saves to the first 68 bytes. The first 60 of these are the state's, which
- * leaves its settings out and what AT mode adds. 0 or 9. */
+ * leaves its settings out and what AT mode and the second command set add. 0 or
+ * 9. */
 uint8_t calugnid_save(const uint8_t *state, uint8_t *saved, size_t saved_length);
 
 /* Makes the controller of the image that stands at the end of `image`, with
@@ -219,8 +236,8 @@ uint8_t calugnid_sent_byte(const uint8_t *state);
 /* ---- Without a state. */
 
 /* Runs a list of events on a fresh controller with the settings that `options`
- * names. 0, 7 or 8. */
-uint8_t calugnid_run(uint8_t options, const uint8_t *list, size_t list_length,
+ * names and this version byte. 0, 7 or 8. */
+uint8_t calugnid_run(uint8_t options, uint8_t version, const uint8_t *list, size_t list_length,
                      uint8_t *answers, size_t answers_length);
 
 /* Loads the image at the end of `image`, runs the list with the ordinary

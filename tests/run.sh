@@ -34,15 +34,16 @@ by_model controller_cases | cmp - crates/controller_tests/stdout
 by_model image_cases | cmp - crates/image_tests/stdout
 
 mkdir -p "$programs"
-for source in tests/c/calls.c examples/self_test.c examples/board.c examples/mouse_lock.c examples/at_mode.c; do
+for source in tests/c/*.c examples/*.c; do
     build "$source"
 done
 for language in c cxx; do
-    "$programs/calls_$language"
-    prints examples/self_test.expected "$programs/self_test_$language"
-    prints examples/board.expected "$programs/board_$language"
-    prints examples/mouse_lock.expected "$programs/mouse_lock_$language"
-    prints examples/at_mode.expected "$programs/at_mode_$language"
+    for source in tests/c/*.c; do
+        "$programs/$(basename "$source" .c)_$language"
+    done
+    for source in examples/*.c; do
+        prints "${source%.c}.expected" "$programs/$(basename "$source" .c)_$language"
+    done
 done
 
 for events in examples/*.events; do

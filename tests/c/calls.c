@@ -1,29 +1,13 @@
 /* Calls each function of include/calugnid.h from C, or from C++, and checks
  * what it hands back and writes. */
-#include <stdio.h>
-#include <string.h>
-
-#include "calugnid.h"
-
-/* The part of a state that an image holds. The byte after it is the options,
- * of which two bits are looked at. */
-enum { BODY_BYTES = 60, OPTION_CHOICES = 4 };
+#include "checks.h"
 
 /* The frame of 14h, the same with the other parity, one without a stop bit, and
  * all ones, where the start bit is wrong. */
 enum { SOUND = 0x628, WRONG_PARITY = 0x428, BROKEN = 0x3FE, NOISE = 0x7FF };
 
-static int failures;
-
-#define CHECK(condition) check((condition), #condition, __LINE__)
-
-static void check(bool holds, const char *condition, int line)
-{
-    if (holds)
-        return;
-    printf("calls.c, line %d: %s\n", line, condition);
-    failures++;
-}
+/* A version byte, which makes no difference to what is called here. */
+enum { VERSION = 0x5A };
 
 /* The printed case of the paper: self-test, status, data, data again. */
 static const uint8_t list[] = {3, 0xAA, 0, 2, 0, 0, 0, 0, 0, 0, 0, 0};
@@ -38,19 +22,19 @@ static void try_lists(void)
 {
     uint8_t state[CALUGNID_STATE_BYTES], answers[sizeof expected];
 
-    CHECK(calugnid_run(CALUGNID_ORDINARY, list, sizeof list, answers, sizeof answers) == 0);
+    CHECK(calugnid_run(CALUGNID_ORDINARY, 0, list, sizeof list, answers, sizeof answers) == 0);
     CHECK(memcmp(answers, expected, sizeof expected) == 0);
-    CHECK(calugnid_run(CALUGNID_ORDINARY, list, 2, answers, sizeof answers) == CALUGNID_BAD_LIST);
-    CHECK(calugnid_run(CALUGNID_ORDINARY, list, sizeof list, answers, 35) == CALUGNID_NO_ROOM);
+    CHECK(calugnid_run(CALUGNID_ORDINARY, 0, list, 2, answers, sizeof answers) == CALUGNID_BAD_LIST);
+    CHECK(calugnid_run(CALUGNID_ORDINARY, 0, list, sizeof list, answers, 35) == CALUGNID_NO_ROOM);
     memset(answers, 0xA5, sizeof answers);
-    calugnid_start(state, CALUGNID_ORDINARY);
+    calugnid_start(state, CALUGNID_ORDINARY, 0);
     CHECK(calugnid_run_state(state, list, sizeof list, answers, 35) == CALUGNID_NO_ROOM);
     CHECK(calugnid_run_state(state, list, 1, answers, 35) == CALUGNID_BAD_LIST);
     CHECK(answers[0] == 0xA5);
     CHECK(calugnid_run_state(state, list, sizeof list, answers, sizeof answers) == 0);
     CHECK(memcmp(answers, expected, sizeof expected) == 0);
     memset(answers, 0xA5, sizeof answers);
-    calugnid_start(state, CALUGNID_ORDINARY);
+    calugnid_start(state, CALUGNID_ORDINARY, 0);
     calugnid_run_fitting(state, list, sizeof list - 1, answers, 26);
     CHECK(memcmp(answers, expected, 18) == 0 && answers[18] == 0xA5);
 }
@@ -61,7 +45,7 @@ static void try_events(void)
     static const uint8_t sending[] = {0, 0, 0, 0x12, 0x0B, 0, 1, 0x28, 0x06};
     uint8_t state[CALUGNID_STATE_BYTES], answer[CALUGNID_ANSWER_BYTES];
 
-    calugnid_start(state, CALUGNID_ORDINARY);
+    calugnid_start(state, CALUGNID_ORDINARY, 0);
     calugnid_lines(state, answer);
     CHECK(memcmp(answer, fresh, sizeof fresh) == 0);
     CHECK(calugnid_refusal(state, CALUGNID_KEYBOARD_FRAME, 0x628) == CALUGNID_NOT_READY);
@@ -85,7 +69,7 @@ static void try_images(void)
     uint8_t bytes[7 + CALUGNID_IMAGE_BYTES], saved[CALUGNID_IMAGE_BYTES];
     uint8_t answers[sizeof expected];
 
-    calugnid_start(state, CALUGNID_ORDINARY);
+    calugnid_start(state, CALUGNID_ORDINARY, 0);
     memset(bytes, 0, 7);
     CHECK(calugnid_save(state, saved, 67) == CALUGNID_NO_SAVE_ROOM);
     CHECK(calugnid_save(state, bytes + 7, CALUGNID_IMAGE_BYTES) == CALUGNID_ACCEPTED);
@@ -105,7 +89,8 @@ static void try_images(void)
     CHECK(calugnid_load(other, saved, sizeof saved) == CALUGNID_BAD_BODY);
 }
 
-/* Fresh whatever the options, which stand in byte 60 less their unused bits. */
+/* Fresh whatever the options, which stand in byte 60 less their unused bits, and
+ * whatever the version byte, which is the last. */
 static void try_starts(void)
 {
     uint8_t state[CALUGNID_STATE_BYTES], fresh[CALUGNID_STATE_BYTES] = {0};
@@ -113,11 +98,15 @@ static void try_starts(void)
     fresh[2] = 0xFF;  /* P1 */
     fresh[3] = 3;     /* P20 and P21 */
     fresh[28] = 0x70; /* command byte */
-    fresh[62] = 3;    /* P22 and P23, in AT mode */
-    for (int options = 0; options < 256; options++) {
-        fresh[BODY_BYTES] = (uint8_t)(options % OPTION_CHOICES);
+    fresh[61] = 0x3F; /* P10-P15, with the second command set */
+    fresh[62] = 3;    /* P22 and P23 */
+    for (unsigned i = 0; i < 256 * 256; i++) {
+        uint8_t options = (uint8_t)(i % 256), version = (uint8_t)(i / 256);
+
+        fresh[BODY_BYTES] = options % OPTION_CHOICES;
+        fresh[64] = version;
         memset(state, 0xA5, sizeof state);
-        calugnid_start(state, (uint8_t)options);
+        calugnid_start(state, options, version);
         CHECK(memcmp(state, fresh, sizeof fresh) == 0);
     }
 }
@@ -145,7 +134,8 @@ static const uint8_t no_mouse[] = {
     12, 0x00, 0, 0x08, 0xCF, 0, 0, 0, 0,
     0, 0x00, 1, 0x08, 0xCF, 0, 0, 0, 0,
 };
-static const uint8_t *const by_option[OPTION_CHOICES] = {shown, kept_back, no_mouse, no_mouse};
+static const uint8_t *const by_option[OPTION_CHOICES] = {shown, kept_back, no_mouse, no_mouse,
+                                                         shown, kept_back, no_mouse, no_mouse};
 
 static void try_lists_with_options(void)
 {
@@ -155,44 +145,24 @@ static void try_lists_with_options(void)
         const uint8_t *right = by_option[options % OPTION_CHOICES];
 
         memset(answers, 0xA5, sizeof answers);
-        CHECK(calugnid_run((uint8_t)options, turned, sizeof turned, answers, 36) == 0);
+        CHECK(calugnid_run((uint8_t)options, VERSION, turned, sizeof turned, answers, 36) == 0);
         CHECK(memcmp(answers, right, sizeof answers) == 0);
-        calugnid_start(state, (uint8_t)options);
+        calugnid_start(state, (uint8_t)options, VERSION);
         memset(answers, 0xA5, sizeof answers);
         CHECK(calugnid_run_state(state, turned, sizeof turned, answers, 36) == 0);
         CHECK(memcmp(answers, right, sizeof answers) == 0);
-        calugnid_start(state, (uint8_t)options);
+        calugnid_start(state, (uint8_t)options, VERSION);
         memset(answers, 0xA5, sizeof answers);
         calugnid_run_fitting(state, turned, sizeof turned, answers, sizeof answers);
         CHECK(memcmp(answers, right, sizeof answers) == 0);
     }
 }
 
-/* Whether the event is accepted, reads nothing and leaves these lines, with
- * nothing being sent. */
-static bool leaves(uint8_t *state, uint8_t kind, uint16_t value, uint8_t status, uint8_t p2)
-{
-    const uint8_t right[] = {0, 0, 0, status, p2, 0, 0, 0, 0};
-    uint8_t answer[CALUGNID_ANSWER_BYTES];
-
-    calugnid_event(state, kind, value, answer);
-    return memcmp(answer, right, sizeof right) == 0;
-}
-
-/* Whether the host reads this byte, new or old. */
-static bool reads(uint8_t *state, uint8_t byte, bool old)
-{
-    uint8_t answer[CALUGNID_ANSWER_BYTES];
-
-    calugnid_event(state, CALUGNID_READ_DATA, 0, answer);
-    return answer[CALUGNID_AT_READ] == byte && (answer[CALUGNID_AT_OLD] == 1) == old;
-}
-
 /* A controller with this command byte, which has both devices on, and the key
  * switch turned. */
 static void start_turned(uint8_t *state, uint8_t options, uint8_t command_byte)
 {
-    calugnid_start(state, options);
+    calugnid_start(state, options, VERSION);
     CHECK(leaves(state, CALUGNID_WRITE_COMMAND, 0x60, 0x18, 0x4B));
     CHECK(leaves(state, CALUGNID_WRITE_DATA, command_byte, 0x10, 0x03));
     CHECK(leaves(state, CALUGNID_PINS, 0x7F, 0x00, 0x03));
@@ -292,7 +262,7 @@ static void try_run_image_with_mouse_lock(void)
     uint8_t state[CALUGNID_STATE_BYTES], answers[sizeof shown];
     uint8_t image[CALUGNID_IMAGE_BYTES], saved[CALUGNID_IMAGE_BYTES];
 
-    calugnid_start(state, CALUGNID_MOUSE_LOCK);
+    calugnid_start(state, CALUGNID_MOUSE_LOCK, 0);
     CHECK(calugnid_save(state, image, sizeof image) == CALUGNID_ACCEPTED);
     CHECK(calugnid_run_image(image, sizeof image, turned, sizeof turned, answers, sizeof answers,
                              saved, sizeof saved) == CALUGNID_ACCEPTED);
@@ -330,7 +300,7 @@ static void try_noise(uint8_t options)
 {
     uint8_t state[CALUGNID_STATE_BYTES], answer[CALUGNID_ANSWER_BYTES];
 
-    calugnid_start(state, options);
+    calugnid_start(state, options, VERSION);
     CHECK(noises_leave(state, CALUGNID_NOT_READY)); /* both devices are off */
     CHECK(leaves(state, CALUGNID_WRITE_COMMAND, 0xAE, 0x18, 0x0B));
     CHECK(leaves(state, CALUGNID_WRITE_COMMAND, 0xA8, 0x18, 0x03));
@@ -366,7 +336,7 @@ static void try_noise_with_turned_switch(void)
 /* A controller with both devices on, locked with this code, which ends in 00h. */
 static void start_locked(uint8_t *state, uint8_t options, const uint8_t *code, size_t length)
 {
-    calugnid_start(state, options);
+    calugnid_start(state, options, VERSION);
     CHECK(leaves(state, CALUGNID_WRITE_COMMAND, 0xAE, 0x18, 0x0B));
     CHECK(leaves(state, CALUGNID_WRITE_COMMAND, 0xA8, 0x18, 0x03));
     CHECK(leaves(state, CALUGNID_WRITE_COMMAND, 0xA5, 0x18, 0x03));
@@ -424,17 +394,19 @@ static bool noises_leave_pc_at(uint8_t *state, uint8_t refusal)
            noise_leaves(state, CALUGNID_MOUSE_FRAME, CALUGNID_NO_MOUSE);
 }
 
-/* A controller in AT mode with the keyboard on. The mouse cannot be. */
+/* A controller in AT mode with the keyboard on. The mouse cannot be. C8h lets
+ * D1h write every latch with the second command set, as it does with the first. */
 static void start_pc_at(uint8_t *state, uint8_t options)
 {
     static const uint8_t fresh[] = {0, 0, 0, 0x10, 0xCF, 0, 0, 0, 0};
     uint8_t answer[CALUGNID_ANSWER_BYTES];
 
-    calugnid_start(state, options);
+    calugnid_start(state, options, VERSION);
     calugnid_lines(state, answer);
     CHECK(memcmp(answer, fresh, sizeof fresh) == 0);
     CHECK(leaves(state, CALUGNID_WRITE_COMMAND, 0xAE, 0x18, 0x8F));
     CHECK(leaves(state, CALUGNID_WRITE_COMMAND, 0xA8, 0x18, 0x8F));
+    CHECK(leaves(state, CALUGNID_WRITE_COMMAND, 0xC8, 0x18, 0x8F));
 }
 
 /* Whether D4h and a data byte send to the keyboard, the byte times out, and the
@@ -493,12 +465,6 @@ static void try_pc_at_mouse(uint8_t options)
     CHECK(calugnid_refusal(state, CALUGNID_MOUSE_FRAME, SOUND) == CALUGNID_NO_MOUSE);
 }
 
-/* Whether the command puts this byte and nothing else changes. */
-static bool puts_byte(uint8_t *state, uint8_t command, uint8_t byte, uint8_t p2)
-{
-    return leaves(state, CALUGNID_WRITE_COMMAND, command, 0x19, p2) && reads(state, byte, false);
-}
-
 /* The output port: five latches by D1h, none by pins; the rest of it, E0h, and
  * lines pulsed. */
 static void try_pc_at_port(uint8_t options)
@@ -549,12 +515,14 @@ static void try_pc_at_images(uint8_t options)
 {
     uint8_t state[CALUGNID_STATE_BYTES], before[CALUGNID_STATE_BYTES];
     uint8_t image[CALUGNID_IMAGE_BYTES];
+    uint8_t allowed = options & CALUGNID_SECOND_SET ? 8 : 0;
 
     start_pc_at(state, options);
     CHECK(times_out(state));
     CHECK(leaves(state, CALUGNID_WRITE_COMMAND, 0xD1, 0x38, 0x8F));
     CHECK(leaves(state, CALUGNID_WRITE_DATA, 0x22, 0x30, 0xA2));
-    CHECK(state[BODY_BYTES] == options % OPTION_CHOICES && state[62] == 0x08 && state[63] == 0x01);
+    CHECK(state[BODY_BYTES] == options % OPTION_CHOICES + allowed);
+    CHECK(state[62] == 0x08 && state[63] == 0x01);
     CHECK(calugnid_save(state, image, sizeof image) == CALUGNID_ACCEPTED);
     CHECK(memcmp(image, state, BODY_BYTES) == 0);
     memcpy(before, state, sizeof state);
@@ -611,6 +579,8 @@ int main(void)
             continue;
         }
         try_noise((uint8_t)options);
+        if (options & CALUGNID_SECOND_SET)
+            continue; /* no lock code */
         try_noise_while_locked((uint8_t)options);
         try_slips((uint8_t)options);
     }

@@ -3,6 +3,8 @@
 use crate::at_case;
 use crate::case;
 use crate::locked_case;
+use crate::second_at_case;
+use crate::second_case;
 use crate::sized;
 
 // Eight events over and over.
@@ -257,5 +259,41 @@ pub fn at_mode() {
     case(
         b"PS/2 mode: D1h writes two latches and F0h to FFh pulse two lines",
         b"03D100 010000 03D100 01FF00 03D000 000000 03F000 03F300 03FC00 03FE00 03E000 000000",
+    );
+}
+
+// The second command set, but for the last case.
+pub fn second_set() {
+    second_case(
+        b"second set: 9xh and Bxh write latches of P1, and C0h reads pin and latch",
+        b"039500 03C000 000000 03B600 03B700 03C000 000000 08B400 03C000 000000 \
+        039F00 03BE00 03BF00 03C000 000000 03B200 03BA00 03B300 08FF00 03C000 000000",
+    );
+    second_case(
+        b"second set: C1h and C2h show three lines, and bit 4 stays the key switch",
+        b"03C100 087F00 020000 08FF00 03B100 03C100 03C200 087F00 03C200 08FF00 03B700 03C200 03AE00",
+    );
+    second_case(
+        b"second set: A1h and AFh put the version byte, CAh the mode, A4h F1h, and no code is loaded",
+        b"03A100 000000 03AF00 000000 03CA00 000000 03A400 000000 03A500 011E00 060000 03A600 01F400 060000 03A400 000000",
+    );
+    second_case(
+        b"second set: P22 and P23 do not show in PS/2 mode",
+        b"03D100 010000 03C800 03D100 010200 03D000 000000 03E200 03E000 000000 03BC00 03ED00 03F000 03D000 000000",
+    );
+    second_at_case(
+        b"second set in AT mode: D1h writes P22 and P23 where it may, Bxh and Exh at any time",
+        b"03D100 012000 03C800 03D100 010100 03C900 03D100 010D00 03BC00 03BD00 03B400 03B500 \
+        03E100 03E200 03E400 03E800 03EE00 03E000 000000 03F000 03D000 000000",
+    );
+    second_at_case(
+        b"second set in AT mode: version byte and mode, and what the mode leaves out",
+        b"03A100 000000 03AF00 000000 03CA00 000000 03A400 020000 03A500 01F400 060000 03C100 03C200 \
+        03D200 014100 060000 039000 03C000 000000 052806",
+    );
+    case(
+        b"the first set knows none of these commands",
+        b"03A100 03AF00 03CA00 039000 03B000 03B700 03C000 000000 03E200 03B400 03D000 000000 \
+        03C800 03D100 010000 03D000 000000 020000",
     );
 }

@@ -5,6 +5,7 @@ use controller::run::run_fresh;
 use libc::STDOUT_FILENO;
 use machine::settings::Settings;
 use machine::settings::ordinary;
+use machine::settings::settings_of;
 ghost use Prim.Native.Nat.{_*_, _≤_, _<_};
 ghost use lib.ListN.{length};
 
@@ -199,20 +200,22 @@ pub fn case(name: &[u8], events: &[u8]) {
 
 // With the mouse lock.
 pub fn locked_case(name: &[u8], events: &[u8]) {
-    let settings = Settings {
-        mouse_lock: true,
-        at_mode: false,
-    };
-    started_case(settings, name, events);
+    started_case(settings_of(1, 0), name, events);
 }
 
 // In AT mode.
 pub fn at_case(name: &[u8], events: &[u8]) {
-    let settings = Settings {
-        mouse_lock: false,
-        at_mode: true,
-    };
-    started_case(settings, name, events);
+    started_case(settings_of(2, 0), name, events);
+}
+
+// With the second command set and the version byte 5Ah.
+pub fn second_case(name: &[u8], events: &[u8]) {
+    started_case(settings_of(4, 0x5A), name, events);
+}
+
+// The same in AT mode.
+pub fn second_at_case(name: &[u8], events: &[u8]) {
+    started_case(settings_of(6, 0x5A), name, events);
 }
 
 fn main() {
@@ -226,4 +229,5 @@ fn main() {
     cases::mouse_lock();
     cases::noise();
     cases::at_mode();
+    cases::second_set();
 }

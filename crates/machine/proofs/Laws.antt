@@ -5,6 +5,7 @@ pub mod Lines
 pub mod Bounds
 pub mod Bits
 pub mod DataPort
+pub mod SecondSet
 pub mod Commands
 pub mod Lock
 pub mod Frames
@@ -15,6 +16,7 @@ pub mod Alike
 pub mod KeptParts
 pub mod KeptLines
 pub mod KeptDataPort
+pub mod KeptSecondSet
 pub mod KeptCommands
 pub mod KeptFrames
 pub mod Kept

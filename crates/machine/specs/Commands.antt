@@ -6,21 +6,30 @@ use lib.ListN.{length}
 use Rattle.translation.specs.Bits.{has}
 use Rattle.machine.specs.Settings.{Settings}
 use Rattle.machine.specs.State.{Public, Machine, withHost, withLocked, lift}
-use Rattle.machine.specs.Lines.{atMode, put, putCell, cellOf, mode, withMode, setBit, clearBit, nibble, outputPort}
+use Rattle.machine.specs.Lines.{within, setBit, clearBit, nibble, atMode, secondSet, put, putCell, cellOf, mode, withMode, inputPort, outputPort}
 use Rattle.machine.specs.Lines.{keyboardOff, mouseOff, keyboardDisabled, keyboardEnabled, mouseDisabled, mouseEnabled}
 use Rattle.machine.specs.DataPort.{dropped}
-
-abbrev pub within : ℕ → ℕ → ℕ → Bool
-within low high c = leb low c && leb c high
+use Rattle.machine.specs.SecondSet.{secondOnly, secondCommand}
 
 -- The commands of PS/2 mode alone: the lock code's and the mouse's, the overlays, and the writes to the buffer and the mouse.
 abbrev pub ps2Only : ℕ → Bool
 ps2Only c = within 0xA4 0xA9 c || (within 0xC1 0xC2 c || within 0xD2 0xD4 c)
 
--- A command as it acts under the settings of the start: one that the mode does not know acts as 00h, which does nothing in any mode
--- (document 02, W3).
+-- The commands of the first set alone: those that load a lock code and lock (document 02, W6).
+abbrev pub firstOnly : ℕ → Bool
+firstOnly c = within 0xA5 0xA6 c
+
+-- The commands that the set of the start has not.
+abbrev pub notInSet : Settings → ℕ → Bool
+notInSet x c = cond (x .secondSet) (firstOnly c) (secondOnly c)
+
+-- A command as it acts under the settings of the start: one that mode or set leaves out acts as 00h, which does nothing under any settings
+-- (document 02, W3 and W6).
+abbrev pub leftOut : Settings → ℕ → Bool
+leftOut x c = (x .atMode && ps2Only c) || notInSet x c
+
 abbrev pub understood : Settings → ℕ → ℕ
-understood x c = cond (x .atMode && ps2Only c) 0 c
+understood x c = cond (leftOut x c) 0 c
 
 -- The pending code that a command leaves.
 unfoldable pub pendingOf : ℕ → ℕ
@@ -49,6 +58,10 @@ overlaid n p =
     withHost p
     (record { command = p .host .command; pending = p .host .pending; cell = p .host .cell; overlay = true; nibble = n })
 
+-- A nibble of P1 as an overlay stores it: with the second command set its bit 0 is 0 (document 02, W6).
+abbrev pub polled : ℕ → Public → ℕ
+polled n p = cond (secondSet p) (clearBit n 0) n
+
 -- the self-test: both devices on, SYS set, 55h
 abbrev pub selfTested : Public → Public
 selfTested p = put 0x55 (withMode (setBit (clearBit (clearBit (mode p) 4) 5) 2) p)
@@ -68,7 +81,7 @@ outputPortPut p = put (outputPort p) p
 abbrev pub namedCellPut : ℕ → Public → Public
 namedCellPut k p = put (cellOf p k) p
 
--- Commands that concern the public part alone.
+-- Commands that concern the public part alone; the last are those of the second set.
 unfoldable pub plainCommand : ℕ → Public → Public
 plainCommand c p =
     cond (within 0x20 0x3F c) (namedCellPut (c - 0x20) p)
@@ -79,19 +92,19 @@ plainCommand c p =
     (cond (eqb c 0xAB) (put 0 p)
     (cond (eqb c 0xAD) (keyboardDisabled p)
     (cond (eqb c 0xAE) (keyboardEnabled p)
-    (cond (eqb c 0xC0) (put (p .ports .pins) p)
-    (cond (eqb c 0xC1) (overlaid (p .ports .pins % 16) p)
-    (cond (eqb c 0xC2) (overlaid (p .ports .pins / 16) p)
+    (cond (eqb c 0xC0) (put (inputPort p) p)
+    (cond (eqb c 0xC1) (overlaid (polled (inputPort p % 16) p) p)
+    (cond (eqb c 0xC2) (overlaid (polled (inputPort p / 16) p) p)
     (cond (eqb c 0xD0) (outputPortPut p)
-    (cond (eqb c 0xE0) (testInputsPut p) p))))))))))))
+    (cond (eqb c 0xE0) (testInputsPut p) (secondCommand c p)))))))))))))
 
 -- a lock code has been loaded
 abbrev pub hasCode : Machine → Bool
 hasCode m = not (eqb (length (m .secret .code)) 0)
 
--- A4h: FAh with a code, F1h without
+-- A4h: FAh with a code, F1h without; with the second command set always F1h (document 02, W6)
 unfoldable pub codeAsked : Machine → Machine
-codeAsked m = cond (hasCode m) (lift (put 0xFA) m) (lift (put 0xF1) m)
+codeAsked m = cond (hasCode m && not (secondSet (m .plain))) (lift (put 0xFA) m) (lift (put 0xF1) m)
 
 abbrev pub closed : Machine → Machine
 closed m = record { plain = withLocked (m .plain) true; secret = record { code = m .secret .code; position = 0 } }

@@ -6,7 +6,7 @@ use lib.ListN.{length, set}
 use lib.Dec.{eqb, leb}
 use Rattle.translation.specs.Bits.{has}
 use Rattle.machine.specs.State.{Public, Host, Machine, withHost, withPorts, withRam, withSending, lift, withSecret}
-use Rattle.machine.specs.Lines.{atMode, put, putMouse, withMode, keyboardEnabled}
+use Rattle.machine.specs.Lines.{atMode, secondSet, put, putMouse, withMode, keyboardEnabled}
 
 -- no pending code
 abbrev pub settled : Public → Public
@@ -28,18 +28,48 @@ send to v p = withSending p (record { to = to; byte = v })
 abbrev pub sendKeyboard : ℕ → Public → Public
 sendKeyboard v p = send 1 v (keyboardEnabled p)
 
--- Code 4: bits 0 and 1 to the latches; in AT mode bits 2, 3 and 5 as well (document 02, W3).
-abbrev pub latched : ℕ → Public → Public
-latched v p =
+-- the latches of P20 and P21
+abbrev pub lowLatched : Bool → Bool → Public → Public
+lowLatched a b p =
+    let q = p .ports in
     withPorts p
     (record {
-      pins = p .ports .pins;
-      p20 = has v 0;
-      p21 = has v 1;
-      p22 = cond (atMode p) (has v 2) (p .ports .p22);
-      p23 = cond (atMode p) (has v 3) (p .ports .p23);
-      p25 = cond (atMode p) (has v 5) (p .ports .p25);
+      pins = q .pins;
+      p20 = a;
+      p21 = b;
+      p22 = q .p22;
+      p23 = q .p23;
+      p25 = q .p25;
+      inputLatches = q .inputLatches;
+      highAllowed = q .highAllowed;
     })
+
+-- those of P22, P23 and P25
+abbrev pub highLatched : Bool → Bool → Bool → Public → Public
+highLatched a b c p =
+    let q = p .ports in
+    withPorts p
+    (record {
+      pins = q .pins;
+      p20 = q .p20;
+      p21 = q .p21;
+      p22 = a;
+      p23 = b;
+      p25 = c;
+      inputLatches = q .inputLatches;
+      highAllowed = q .highAllowed;
+    })
+
+-- D1h may write P22 and P23: with the second command set while C8h allows it (document 02, W6), with the first in AT mode.
+abbrev pub highWritable : Public → Bool
+highWritable p = cond (secondSet p) (p .ports .highAllowed) (atMode p)
+
+-- Code 4: bits 0 and 1 to the latches; bits 2 and 3 as well where they may be written, in AT mode also bit 5 (document 02, W3).
+abbrev pub latched : ℕ → Public → Public
+latched v p =
+    let q = p .ports in
+    highLatched (cond (highWritable p) (has v 2) (q .p22)) (cond (highWritable p) (has v 3) (q .p23)) (cond (atMode p) (has v 5) (q .p25))
+    (lowLatched (has v 0) (has v 1) p)
 
 -- code 2: to the cell that the command named
 abbrev pub cellWritten : ℕ → Public → Public

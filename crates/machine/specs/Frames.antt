@@ -105,5 +105,15 @@ timedOut p = cond (eqb (p .sending .to) 2) (putMouse 0xFE (notTaken (idle p))) (
 -- Kind 8: P1 is the value.
 abbrev pub pinned : ℕ → Public → Public
 pinned v p =
-    let latches = p .ports in
-    withPorts p (record { pins = v; p20 = latches .p20; p21 = latches .p21; p22 = latches .p22; p23 = latches .p23; p25 = latches .p25 })
+    let q = p .ports in
+    withPorts p
+    (record {
+      pins = v;
+      p20 = q .p20;
+      p21 = q .p21;
+      p22 = q .p22;
+      p23 = q .p23;
+      p25 = q .p25;
+      inputLatches = q .inputLatches;
+      highAllowed = q .highAllowed;
+    })

@@ -2,6 +2,7 @@ pub mod Settings
 pub mod State
 pub mod Lines
 pub mod DataPort
+pub mod SecondSet
 pub mod Commands
 pub mod Lock
 pub mod Frames

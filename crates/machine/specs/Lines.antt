@@ -2,13 +2,18 @@
 use Prim.Native.Nat.{ℕ, _+_, _-_, _*_, _^_, _%_}
 use mathlib.Core.Bool.{Bool, true, false, cond, not, _&&_}
 use lib.ListN.{getD, set}
-use lib.Dec.{eqb}
+use lib.Dec.{eqb, leb}
+use lib.Bits.{bitAnd, bitOr}
 use Rattle.translation.specs.Bits.{bit, has}
 use Rattle.machine.specs.State.{Public, Output, withOutput, withRam}
 
 -- w where the line is set, else 0
 abbrev pub weight : ℕ → Bool → ℕ
 weight w b = cond b w 0
+
+-- c is one of the numbers from low to high
+abbrev pub within : ℕ → ℕ → ℕ → Bool
+within low high c = leb low c && leb c high
 
 -- bit k of n set or cleared
 abbrev pub setBit : ℕ → ℕ → ℕ
@@ -20,6 +25,10 @@ clearBit n k = n - bit n k * 2 ^ k
 -- started in AT mode (document 02, W3), else in PS/2 mode
 abbrev pub atMode : Public → Bool
 atMode p = p .settings .atMode
+
+-- started with the second command set (document 02, W6), else with the first
+abbrev pub secondSet : Public → Bool
+secondSet p = p .settings .secondSet
 
 -- a cell of the RAM; cell 0 is the mode byte
 abbrev pub cellOf : Public → ℕ → ℕ
@@ -70,9 +79,14 @@ mouseEnabled p = withMode (clearBit (mode p) 5) p
 abbrev pub inputFull : Public → Bool
 inputFull p = not (eqb (p .sending .to) 0)
 
+-- P1 as it is read: the pins. With the second command set a line reads 1 exactly if its pin and its latch are 1; P16 and P17 have no latch
+-- (document 02, W6).
+unfoldable pub inputPort : Public → ℕ
+inputPort p = cond (secondSet p) (bitAnd (p .ports .pins) (bitOr (p .ports .inputLatches) 0xC0)) (p .ports .pins)
+
 -- P1 bit 7, the key lock: 0 keeps the keyboard from the host, unless overridden.
 abbrev pub keySwitch : Public → Bool
-keySwitch p = has (p .ports .pins) 7
+keySwitch p = has (inputPort p) 7
 
 abbrev pub inhibited : Public → Bool
 inhibited p = not (keySwitch p) && not (override p)
@@ -89,10 +103,16 @@ nibble a b c d = weight 1 a + weight 2 b + weight 4 c + weight 8 d
 abbrev pub statusBit5 : Public → Bool
 statusBit5 p = cond (atMode p) (p .errors .ttim) (p .output .full && p .output .mouse)
 
--- Status bits 4-7: P1 bit 7, bit 5 as above, TERR, PERR; or the overlay's nibble.
+-- What an overlay shows: its nibble. With the second command set status bit 4 remains P1 bit 7 (document 02, W6).
+unfoldable pub overlayShown : Public → ℕ
+overlayShown p =
+    let n = p .host .nibble in
+    cond (secondSet p) (nibble (keySwitch p) (has n 1) (has n 2) (has n 3)) (n % 16)
+
+-- Status bits 4-7: P1 bit 7, bit 5 as above, TERR, PERR; or the overlay.
 unfoldable pub highNibble : Public → ℕ
 highNibble p =
-    cond (p .host .overlay) (p .host .nibble % 16)
+    cond (p .host .overlay) (overlayShown p)
     (nibble (keySwitch p) (statusBit5 p) (p .errors .terr) (p .errors .perr))
 
 -- Status: bit 0 OBF, 1 IBF, 2 SYS, 3 C, and bits 4-7.

@@ -1,5 +1,6 @@
--- Document 02, W3: what is true of the two modes. In PS/2 mode each rule that looks at the mode is document 01's, and what AT mode adds to the
--- state stays as it is. In AT mode a machine from fresh never has what that mode left out.
+-- Document 02, W3 and W6: what is true of the modes and the command sets. In PS/2 mode with the first set each rule that looks at mode or set is
+-- document 01's, and what AT mode and the second set add to the state stays as it is. In AT mode a machine from fresh never has what that mode
+-- left out.
 use Prim.Native.Nat.{ℕ, _+_, _*_, _%_}
 use mathlib.Core.List.{[]}
 use mathlib.Core.Path.{_≡_}
@@ -7,23 +8,29 @@ use mathlib.Core.Bool.{Bool, true, false, cond, not, _&&_}
 use lib.Dec.{leb}
 use Rattle.translation.specs.Bits.{has}
 use Rattle.machine.specs.State.{Public, Machine, withErrors, withPorts, lift}
-use Rattle.machine.specs.Lines.{nibble, keySwitch, inputFull, keyboardOff, mouseOff, keyboardRequest, mouseRequest, highNibble, outputPort}
+use Rattle.machine.specs.Lines.{nibble, put, inputPort, keySwitch, inputFull, keyboardOff, mouseOff, keyboardRequest, mouseRequest}
+use Rattle.machine.specs.Lines.{highNibble, outputPort}
 use Rattle.machine.specs.DataPort.{latched}
-use Rattle.machine.specs.Commands.{commandWritten, loadCut, acts, writeCommand, testInputs, pulseOf}
+use Rattle.machine.specs.SecondSet.{secondOnly}
+use Rattle.machine.specs.Commands.{commandWritten, loadCut, polled, hasCode, codeAsked, acts, writeCommand, testInputs, pulseOf}
 use Rattle.machine.specs.Frames.{errorsSet, notTaken}
 use Rattle.machine.specs.Events.{isWrite, isFrame, endsSending, noRoom, stateRefusal}
 
 pub record Ps2Rules (m : Machine) : Type 0 where
-  -- the status' bits 4-7, and P2
+  -- P1, the status' bits 4-7, and P2
+  pub pins : inputPort (m .plain) ≡ m .plain .ports .pins
   pub status : highNibble (m .plain) ≡
       cond (m .plain .host .overlay) (m .plain .host .nibble % 16)
       (nibble (keySwitch (m .plain)) (m .plain .output .full && m .plain .output .mouse) (m .plain .errors .terr) (m .plain .errors .perr))
   pub port : outputPort (m .plain) ≡
       nibble (m .plain .ports .p20) (m .plain .ports .p21) false (mouseOff (m .plain))
       + 16 * nibble (keyboardRequest (m .plain)) (mouseRequest (m .plain)) (keyboardOff (m .plain)) false
-  -- every command acts as itself
-  pub command : (c : ℕ) → writeCommand c m ≡ acts c (lift (commandWritten c) (loadCut m))
-  -- D1h, E0h, F0h-FFh
+  -- every command acts as itself, and those of the second set do nothing
+  pub command : (c : ℕ) → secondOnly c ≡ false → writeCommand c m ≡ acts c (lift (commandWritten c) (loadCut m))
+  pub unknown : (c : ℕ) → secondOnly c ≡ true → writeCommand c m ≡ lift (commandWritten 0) (loadCut m)
+  -- A4h, C1h and C2h, D1h, E0h, F0h-FFh
+  pub asked : codeAsked m ≡ cond (hasCode m) (lift (put 0xFA) m) (lift (put 0xF1) m)
+  pub overlays : (n : ℕ) → polled n (m .plain) ≡ n
   pub latches : (v : ℕ) → latched v (m .plain) ≡
       withPorts (m .plain)
       (record {
@@ -33,6 +40,8 @@ pub record Ps2Rules (m : Machine) : Type 0 where
         p22 = m .plain .ports .p22;
         p23 = m .plain .ports .p23;
         p25 = m .plain .ports .p25;
+        inputLatches = m .plain .ports .inputLatches;
+        highAllowed = m .plain .ports .highAllowed;
       })
   pub inputs : testInputs (m .plain) ≡ nibble (not (keyboardOff (m .plain))) (not (mouseOff (m .plain))) false false
   pub pulses : (c : ℕ) → pulseOf (m .plain .settings) c ≡ cond (leb 0xF0 c) (nibble (not (has c 0)) (not (has c 1)) false false) 0

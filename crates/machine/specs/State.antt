@@ -26,7 +26,8 @@ pub record Host : Type 0 where
   pub overlay : Bool
   pub nibble : ℕ
 
--- Input port pins P1, and the latches of output port lines: P20, P21, and those that AT mode has besides.
+-- Input port pins P1; the latches of output port lines: P20, P21, and those that AT mode and the second command set have besides; and of the
+-- second set (document 02, W6) the latches of P10-P15, in bits 0-5, and whether D1h may write P22 and P23.
 pub record Ports : Type 0 where
   pub pins : ℕ
   pub p20 : Bool
@@ -34,6 +35,8 @@ pub record Ports : Type 0 where
   pub p22 : Bool
   pub p23 : Bool
   pub p25 : Bool
+  pub inputLatches : ℕ
+  pub highAllowed : Bool
 
 -- The transmitter: whom a byte is being sent to (0 nobody, 1 keyboard, 2 mouse), and the byte.
 pub record Sending : Type 0 where
@@ -94,7 +97,7 @@ lift f m = record { plain = f (m .plain); secret = m .secret }
 abbrev pub withSecret : Machine → Secret → Machine
 withSecret m x = record { plain = m .plain; secret = x }
 
--- Fresh, as a start with these settings leaves it: P1 FFh, the latches of P20-P23 1, the mode byte 70h, all else 0 or none.
+-- Fresh, as a start with these settings leaves it: P1 FFh, the latches of P20-P23 and P10-P15 1, the mode byte 70h, all else 0 or none.
 unfoldable pub fresh : Settings → Machine
 fresh x =
     record {
@@ -102,7 +105,16 @@ fresh x =
         output = record { byte = 0; full = false; mouse = false };
         errors = record { terr = false; perr = false; ttim = false };
         host = record { command = false; pending = 0; cell = 0; overlay = false; nibble = 0 };
-        ports = record { pins = 0xFF; p20 = true; p21 = true; p22 = true; p23 = true; p25 = false };
+        ports = record {
+          pins = 0xFF;
+          p20 = true;
+          p21 = true;
+          p22 = true;
+          p23 = true;
+          p25 = false;
+          inputLatches = 0x3F;
+          highAllowed = false;
+        };
         sending = record { to = 0; byte = 0 };
         breaks = false;
         locked = false;

@@ -1,8 +1,9 @@
 -- "Saved image", the body: the first bytes that the program holds its state in are those that an image has of it; the settings of the start
--- and what AT mode adds stand behind them, in the places that document 02's W9 gives them. One table, read both ways.
+-- and what AT mode and the second command set add stand behind them, in the places that document 02's W9 gives them; the version byte, which no
+-- image has, is last. One table, read both ways.
 use Prim.Native.Nat.{ℕ, _+_, _-_, _*_}
 use mathlib.Core.Path.{_≡_}
-use mathlib.Core.Bool.{false}
+use mathlib.Core.Bool.{Bool, false}
 use mathlib.Core.List.{List, [], _∷_, _++_}
 use lib.Dec.{eqb}
 use lib.ListN.{length, getD, take, drop, replicate}
@@ -15,7 +16,7 @@ use Rattle.machine.specs.declared.settings.Settings as program
 
 -- how many bytes the state has
 abbrev pub stateLength : ℕ
-stateLength = 64
+stateLength = 65
 
 -- Byte 1: OBF, mouse source, C, TERR, PERR, break, locked in bits 0-6.
 abbrev pub flags : Public → ℕ
@@ -53,17 +54,23 @@ padded code = code ++ replicate (16 - length code) 0
 unfoldable pub body : Machine → List ℕ
 body m = head m ++ padded (m .secret .code) ++ m .plain .ram
 
--- Byte 60: the options, mouse lock in bit 0, AT mode in bit 1.
-abbrev pub optionsOf : Settings → ℕ
-optionsOf x = nibble (x .mouseLock) (x .atMode) false false
+-- Byte 60: the options, mouse lock in bit 0, AT mode in bit 1, the second command set in bit 2; and in bit 3 whether D1h may write P22 and P23.
+abbrev pub optionsOf : Settings → Bool → ℕ
+optionsOf x allowed = nibble (x .mouseLock) (x .atMode) (x .secondSet) allowed
 
 -- Byte 62: P22, P23 and P25 in bits 0, 1 and 3.
 abbrev pub highLatches : Public → ℕ
 highLatches p = nibble (p .ports .p22) (p .ports .p23) false (p .ports .p25)
 
--- What a state has behind those bytes. Byte 61 stands for nothing, byte 63 has the transmit time-out in bit 0.
+-- What a state has behind those bytes. Byte 61 has the latches of P10-P15, byte 63 the transmit time-out in bit 0, byte 64 is the version byte.
 abbrev pub beyond : Public → List ℕ
-beyond p = optionsOf (p .settings) ∷ 0 ∷ highLatches p ∷ nibble (p .errors .ttim) false false false ∷ []
+beyond p =
+    optionsOf (p .settings) (p .ports .highAllowed)
+    ∷ p .ports .inputLatches
+    ∷ highLatches p
+    ∷ nibble (p .errors .ttim) false false false
+    ∷ p .settings .version
+    ∷ []
 
 -- The bytes of a machine.
 unfoldable pub stateOf : Machine → List ℕ
@@ -88,12 +95,14 @@ public s =
         p22 = has (at s 62) 0;
         p23 = has (at s 62) 1;
         p25 = has (at s 62) 3;
+        inputLatches = at s 61;
+        highAllowed = has (at s 60) 3;
       };
       sending = record { to = at s 8; byte = at s 9 };
       breaks = flags .breaks;
       locked = flags .locked;
       ram = at s 28 ∷ take 31 (drop 29 s);
-      settings = settingsOf (at s 60);
+      settings = settingsOf (at s 60) (at s 64);
     }
 
 -- the lock code's length is byte 10, and its bytes stand from byte 12 on
@@ -109,4 +118,4 @@ IsState s = s ≡ stateOf (view s)
 
 -- the settings that a caller's struct names
 abbrev pub named : program.Settings → Settings
-named x = record { mouseLock = x .«mouse_lock»; atMode = x .«at_mode» }
+named x = record { mouseLock = x .«mouse_lock»; atMode = x .«at_mode»; secondSet = x .«second_set»; version = x .«version» }

@@ -2,6 +2,7 @@
 use crate::flags::with_output;
 use crate::state::FLAGS;
 use crate::state::HIGH_LATCHES;
+use crate::state::INPUT_LATCHES;
 use crate::state::LATCHES;
 use crate::state::MODE;
 use crate::state::NIBBLE;
@@ -30,6 +31,13 @@ pub fn at_mode(s: &State) -> bool
     ensures { λ r. ⌜ r ≡ lines.atMode (public (now (s .entry))) ⌝ }
 {
     s[OPTIONS] / 2 % 2 == 1
+}
+
+// Started with the second command set, else with the first.
+pub fn second_set(s: &State) -> bool
+    ensures { λ r. ⌜ r ≡ lines.secondSet (public (now (s .entry))) ⌝ }
+{
+    s[OPTIONS] / 4 % 2 == 1
 }
 
 // A cell of the RAM, 0 past its end.
@@ -96,18 +104,36 @@ pub fn input_full(s: &State) -> bool
     s[SENT_TO] != 0
 }
 
+// The input port P1 as it is read: with the second command set P10-P15 read 0 while their latches are 0.
+pub fn input_port(s: &State) -> u8
+    ensures { λ r. ⌜ r ≡ lines.inputPort (public (now (s .entry))) ⌝ }
+{
+    if second_set(s) {
+        s[PINS] & (s[INPUT_LATCHES] | 0xC0)
+    } else {
+        s[PINS]
+    }
+}
+
+// Bit 7 of P1, which has no latch: 0 while the key switch is turned.
+fn key_switch(s: &State) -> bool
+    ensures { λ r. ⌜ r ≡ lines.keySwitch (public (now (s .entry))) ⌝ }
+{
+    s[PINS] / 128 % 2 == 1
+}
+
 // The key switch is turned and the mode byte does not override it.
 pub fn inhibited(s: &State) -> bool
     ensures { λ r. ⌜ r ≡ lines.inhibited (public (now (s .entry))) ⌝ }
 {
-    (s[PINS] / 128 % 2 != 1) & (s[MODE] / 8 % 2 != 1)
+    !key_switch(s) & (s[MODE] / 8 % 2 != 1)
 }
 
 // The key switch is turned and locks the mouse too, whatever the mode byte says.
 pub fn mouse_inhibited(s: &State) -> bool
     ensures { λ r. ⌜ r ≡ lines.mouseInhibited (public (now (s .entry))) ⌝ }
 {
-    (s[OPTIONS] / 1 % 2 == 1) & (s[PINS] / 128 % 2 != 1)
+    (s[OPTIONS] / 1 % 2 == 1) & !key_switch(s)
 }
 
 // Bit 5 of the status: the unread byte is the mouse's; in AT mode the transmit time-out.
@@ -121,15 +147,31 @@ fn status_bit_5(s: &State) -> bool
     }
 }
 
+// What an overlay shows in bits 4-7 of the status: its nibble; with the second command set bit 4 remains the key switch.
+fn overlay_shown(s: &State) -> u8
+    ensures { λ r. ⌜ (r ≡ 16 * lines.overlayShown (public (now (s .entry)))) × (r ≤ 240) ⌝ }
+{
+    if second_set(s) {
+        upper(
+            key_switch(s),
+            s[NIBBLE] / 2 % 2 == 1,
+            s[NIBBLE] / 4 % 2 == 1,
+            s[NIBBLE] / 8 % 2 == 1,
+        )
+    } else {
+        16 * (s[NIBBLE] % 16)
+    }
+}
+
 // Bits 4-7 of the status.
 fn high_status(s: &State) -> u8
     ensures { λ r. ⌜ (r ≡ 16 * lines.highNibble (public (now (s .entry)))) × (r ≤ 240) ⌝ }
 {
     if s[OVERLAY] == 1 {
-        16 * (s[NIBBLE] % 16)
+        overlay_shown(s)
     } else {
         upper(
-            s[PINS] / 128 % 2 == 1,
+            key_switch(s),
             status_bit_5(s),
             s[FLAGS] / 8 % 2 == 1,
             s[FLAGS] / 16 % 2 == 1,

@@ -1,13 +1,17 @@
 // What a start names.
 use crate::weights::nibble;
 ghost use mathlib.Core.Path.{_≡_};
+ghost use mathlib.Core.Bool.{false};
 ghost use Rattle.machine.specs.Settings as settings;
 ghost use Rattle.machine.specs.View.{optionsOf, named};
 
-// With the mouse lock the key switch keeps the mouse from the host as well. AT mode has no mouse and no lock code.
+// With the mouse lock the key switch keeps the mouse from the host as well. AT mode has no mouse and no lock code. The second command set is the
+// VT82C42's; its firmware can ask for the version byte.
 pub struct Settings {
     pub mouse_lock: bool,
     pub at_mode: bool,
+    pub second_set: bool,
+    pub version: u8,
 }
 
 // Those of a start that names nothing else.
@@ -17,22 +21,31 @@ pub fn ordinary() -> Settings
     Settings {
         mouse_lock: false,
         at_mode: false,
+        second_set: false,
+        version: 0,
     }
 }
 
-// Those that a byte of options names.
-pub fn settings_of(options: u8) -> Settings
-    ensures { λ r. ⌜ named r ≡ settings.settingsOf options ⌝ }
+// Those that a byte of options and a version byte name.
+pub fn settings_of(options: u8, version: u8) -> Settings
+    ensures { λ r. ⌜ named r ≡ settings.settingsOf options version ⌝ }
 {
     Settings {
         mouse_lock: options / 1 % 2 == 1,
         at_mode: options / 2 % 2 == 1,
+        second_set: options / 4 % 2 == 1,
+        version: version,
     }
 }
 
-// The byte of options that the state keeps of them.
+// The byte of options that a fresh state has of them: D1h may not write P22 and P23 with the second set.
 pub(crate) fn options_of(settings: Settings) -> u8
-    ensures { λ r. ⌜ r ≡ optionsOf (named settings) ⌝ }
+    ensures { λ r. ⌜ r ≡ optionsOf (named settings) false ⌝ }
 {
-    nibble(settings.mouse_lock, settings.at_mode, false, false)
+    nibble(
+        settings.mouse_lock,
+        settings.at_mode,
+        settings.second_set,
+        false,
+    )
 }

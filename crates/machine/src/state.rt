@@ -1,5 +1,5 @@
 // The controller's state: bytes that a run changes in place. The first sixty are those of a saved image's body; the settings and what AT mode
-// adds stand behind them.
+// and the second command set add stand behind them.
 use crate::settings::Settings;
 use crate::settings::options_of;
 ghost use mathlib.Core.Path.{_≡_};
@@ -8,7 +8,7 @@ ghost use lib.ListN.{length};
 ghost use Rattle.machine.specs.State.{fresh};
 ghost use Rattle.machine.specs.View.{stateLength, stateOf, view, named};
 
-pub type State = [u8; 64];
+pub type State = [u8; 65];
 
 // The output byte, which the host reads at port 60h.
 pub const OUTPUT: usize = 0;
@@ -47,14 +47,21 @@ pub const RAM: usize = 28;
 
 pub const MODE: usize = 28;
 
-// The options of the start, which no event changes: mouse lock in bit 0, AT mode in bit 1.
+// The options of the start, which no event changes: mouse lock in bit 0, AT mode in bit 1, the second command set in bit 2. Bit 3 is 1 while D1h
+// may write P22 and P23 with that set.
 pub const OPTIONS: usize = 60;
 
-// The latches of P22, P23 and P25 in bits 0, 1 and 3. Byte 61 stands for nothing.
+// The latches of P10-P15 in bits 0-5.
+pub const INPUT_LATCHES: usize = 61;
+
+// The latches of P22, P23 and P25 in bits 0, 1 and 3.
 pub const HIGH_LATCHES: usize = 62;
 
 // The transmit time-out in bit 0.
 pub const TTIM: usize = 63;
+
+// The version byte, which no event changes.
+pub const VERSION: usize = 64;
 
 // The length that the type has, told to the proofs: they do not learn it of an array behind a reference. It compiles to nothing.
 pub fn sized(s: State)
@@ -74,11 +81,13 @@ pub fn code_length(s: &State) -> u8
 pub fn start(settings: Settings) -> State
     ensures { λ r. ⌜ (r ≡ stateOf (fresh (named settings))) × (view r ≡ fresh (named settings)) ⌝ }
 {
-    let mut s = [0u8; 64];
+    let mut s = [0u8; 65];
     s[PINS] = 0xFF;
     s[LATCHES] = 3;
     s[MODE] = 0x70;
     s[OPTIONS] = options_of(settings);
+    s[INPUT_LATCHES] = 0x3F;
     s[HIGH_LATCHES] = 3;
+    s[VERSION] = settings.version;
     s
 }

@@ -9,12 +9,12 @@ ghost use Rattle.controller.specs.Promises.{FreshRun};
 ghost use Rattle.image.specs.Find.{bodyStart};
 ghost use Rattle.image.specs.Run.{ImageRun};
 
-// A list run by a controller that is started with the settings that the options name: 0, or the number that refuses it.
+// A list run by a controller that is started with the settings that the options name and a version byte: 0, or the number that refuses it.
 #[no_mangle]
-pub extern "C" fn calugnid_run(options: u8, list: &[u8], answers: &mut [u8]) -> u8
-    ensures { λ r. ⌜ FreshRun (settingsOf options) (now (list .entry)) (now (answers .entry)) (now (answers .exit)) r ⌝ }
+pub extern "C" fn calugnid_run(options: u8, version: u8, list: &[u8], answers: &mut [u8]) -> u8
+    ensures { λ r. ⌜ FreshRun (settingsOf options version) (now (list .entry)) (now (answers .entry)) (now (answers .exit)) r ⌝ }
 {
-    run_fresh(settings_of(options), list, answers)
+    run_fresh(settings_of(options, version), list, answers)
 }
 
 // An image loaded, a list run and the state saved again. Every check comes before the first byte is written.

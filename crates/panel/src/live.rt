@@ -19,12 +19,12 @@ ghost use Rattle.controller.specs.Promises.{EventAnswered, FittingRun, ListRun}
 ghost use Rattle.image.specs.Promises.{Saved, Loaded};
 ghost use Rattle.panel.specs.Values.{eventOf};
 
-// A controller after power-on, with the settings that the options name.
+// A controller after power-on, with the settings that the options name and a version byte.
 #[no_mangle]
-pub extern "C" fn calugnid_start(state: &mut State, options: u8)
-    ensures { λ _. ⌜ now (state .exit) ≡ stateOf (fresh (settingsOf options)) ⌝ }
+pub extern "C" fn calugnid_start(state: &mut State, options: u8, version: u8)
+    ensures { λ _. ⌜ now (state .exit) ≡ stateOf (fresh (settingsOf options version)) ⌝ }
 {
-    *state = start(settings_of(options));
+    *state = start(settings_of(options, version));
 }
 
 // One event, and its nine answer bytes.

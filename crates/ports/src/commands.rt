@@ -6,25 +6,29 @@ use crate::mode::disable_mouse;
 use crate::mode::enable_keyboard;
 use crate::mode::enable_mouse;
 use crate::mode::set_mode;
+use crate::second_set::second_command;
+use crate::second_set::second_only;
+use crate::second_set::within;
 use machine::events::Told;
 use machine::events::quiet;
 use machine::flags::with_command;
 use machine::flags::with_locked;
 use machine::lines::at_mode;
 use machine::lines::cell;
+use machine::lines::input_port;
 use machine::lines::keyboard_off;
 use machine::lines::mode;
 use machine::lines::mouse_off;
 use machine::lines::output_port;
 use machine::lines::put;
 use machine::lines::put_cell;
+use machine::lines::second_set;
 use machine::state::CELL;
 use machine::state::FLAGS;
 use machine::state::LENGTH;
 use machine::state::NIBBLE;
 use machine::state::OVERLAY;
 use machine::state::PENDING;
-use machine::state::PINS;
 use machine::state::POSITION;
 use machine::state::State;
 use machine::state::sized;
@@ -402,26 +406,35 @@ fn put_named_cell(s: &mut State, c: u8)
     put(s, byte);
 }
 
-// The pins put, or half of them shown over the status.
+// The input port put, or half of it shown over the status.
 fn put_pins(s: &mut State)
-    ensures { λ _. ⌜ Changed (lift (λ p. lines.put (p .ports .pins) p)) (now (s .entry)) (now (s .exit)) ⌝ }
+    ensures { λ _. ⌜ Changed (lift (λ p. lines.put (lines.inputPort p) p)) (now (s .entry)) (now (s .exit)) ⌝ }
 {
-    let pins = s[PINS];
+    let pins = input_port(s);
     put(s, pins);
 }
 
-fn show_low_pins(s: &mut State)
-    ensures { λ _. ⌜ Changed (lift (λ p. command.overlaid (p .ports .pins % 16) p)) (now (s .entry)) (now (s .exit)) ⌝ }
+// A nibble of the input port as an overlay stores it: with the second set without its bit 0.
+fn polled(s: &State, n: u8) -> u8
+    ensures { λ r. ⌜ r ≡ command.polled n (public (now (s .entry))) ⌝ }
 {
-    let pins = s[PINS];
-    overlay(s, pins % 16);
+    if second_set(s) { n - n / 1 % 2 * 1 } else { n }
+}
+
+fn show_low_pins(s: &mut State)
+    ensures { λ _. ⌜ Changed (lift (λ p. command.overlaid (command.polled (lines.inputPort p % 16) p) p)) (now (s .entry)) (now (s .exit)) ⌝ }
+{
+    let pins = input_port(s);
+    let shown = polled(s, pins % 16);
+    overlay(s, shown);
 }
 
 fn show_high_pins(s: &mut State)
-    ensures { λ _. ⌜ Changed (lift (λ p. command.overlaid (p .ports .pins / 16) p)) (now (s .entry)) (now (s .exit)) ⌝ }
+    ensures { λ _. ⌜ Changed (lift (λ p. command.overlaid (command.polled (lines.inputPort p / 16) p) p)) (now (s .entry)) (now (s .exit)) ⌝ }
 {
-    let pins = s[PINS];
-    overlay(s, pins / 16);
+    let pins = input_port(s);
+    let shown = polled(s, pins / 16);
+    overlay(s, shown);
 }
 
 // The commands that concern the public part alone.
@@ -442,7 +455,7 @@ fn plain_command(s: &mut State, c: u8)
         0xC2 => show_high_pins(s),
         0xD0 => put_output_port(s),
         0xE0 => put_test_inputs(s),
-        _ => {}
+        _ => second_command(s, c),
     }
 }
 
@@ -454,11 +467,11 @@ fn has_code(s: &State) -> bool
     s[LENGTH] != 0
 }
 
-// A4h: is there a lock code?
+// A4h: is there a lock code? With the second set there is none.
 fn ask_code(s: &mut State)
     ensures { λ _. ⌜ Changed command.codeAsked (now (s .entry)) (now (s .exit)) ⌝ }
 {
-    if has_code(s) {
+    if has_code(s) & !second_set(s) {
         put(s, 0xFA);
     } else {
         put(s, 0xF1);
@@ -500,14 +513,29 @@ fn act(s: &mut State, c: u8)
 fn ps2_only(c: u8) -> bool
     ensures { λ r. ⌜ r ≡ command.ps2Only c ⌝ }
 {
-    ((0xA4 <= c) & (c <= 0xA9)) | (((0xC1 <= c) & (c <= 0xC2)) | ((0xD2 <= c) & (c <= 0xD4)))
+    within(0xA4, 0xA9, c) | (within(0xC1, 0xC2, c) | within(0xD2, 0xD4, c))
 }
 
-// The command as it acts in the mode of the start: 00h, which does nothing, for one that AT mode does not know.
+// A command that the set of the start has not. Those that load a lock code and lock are the first set's.
+fn not_in_set(s: &State, c: u8) -> bool
+    ensures { λ r. ⌜ r ≡ command.notInSet (public (now (s .entry)) .settings) c ⌝ }
+{
+    if second_set(s) {
+        within(0xA5, 0xA6, c)
+    } else {
+        second_only(c)
+    }
+}
+
+// The command as it acts under the settings of the start: 00h, which does nothing, for one that mode or set leaves out.
 fn understood(s: &State, c: u8) -> u8
     ensures { λ r. ⌜ r ≡ command.understood (public (now (s .entry)) .settings) c ⌝ }
 {
-    if at_mode(s) & ps2_only(c) { 0 } else { c }
+    if (at_mode(s) & ps2_only(c)) | not_in_set(s, c) {
+        0
+    } else {
+        c
+    }
 }
 
 // What the command does.

@@ -8,23 +8,29 @@ use machine::flags::with_command;
 use machine::lines::at_mode;
 use machine::lines::put;
 use machine::lines::put_mouse;
+use machine::lines::second_set;
 use machine::state::CELL;
 use machine::state::CODE;
 use machine::state::FLAGS;
 use machine::state::HIGH_LATCHES;
 use machine::state::LATCHES;
 use machine::state::LENGTH;
+use machine::state::OPTIONS;
 use machine::state::PENDING;
 use machine::state::RAM;
 use machine::state::SENT;
 use machine::state::SENT_TO;
 use machine::state::State;
 use machine::state::sized;
+use machine::weights::nibble;
+ghost use mathlib.Core.Path.{_≡_};
+ghost use mathlib.Core.Bool.{cond};
 ghost use Prim.Native.Nat.{_<_};
 ghost use lib.ListN.{getD};
 ghost use Rattle.machine.specs.State.{lift};
 ghost use Rattle.machine.specs.DataPort as port;
 ghost use Rattle.machine.specs.Events.{event};
+ghost use Rattle.machine.specs.View.{public};
 ghost use Rattle.machine.specs.Changed.{Changed};
 ghost use Rattle.machine.specs.Told.{EventTold};
 
@@ -66,16 +72,32 @@ fn send_keyboard(s: &mut State, byte: u8)
     send(s, 1, byte);
 }
 
-// Bits 0 and 1, and in AT mode bits 2, 3 and 5, go to the latches.
+// One of two lines.
+fn either(first: bool, a: bool, b: bool) -> bool
+    ensures { λ r. ⌜ r ≡ cond first a b ⌝ }
+{
+    if first { a } else { b }
+}
+
+// D1h may write P22 and P23.
+fn high_writable(s: &State) -> bool
+    ensures { λ r. ⌜ r ≡ port.highWritable (public (now (s .entry))) ⌝ }
+{
+    either(second_set(s), s[OPTIONS] / 8 % 2 == 1, at_mode(s))
+}
+
+// D1h: bits 0 and 1 go to the latches, bits 2 and 3 where they may be written, bit 5 in AT mode.
 fn latch(s: &mut State, v: u8)
     ensures { λ _. ⌜ Changed (lift (port.latched v)) (now (s .entry)) (now (s .exit)) ⌝ }
 {
     sized(*s);
-    let all = at_mode(s);
-    s[LATCHES] = v % 4;
-    if all {
-        s[HIGH_LATCHES] = v / 4 % 4 + v / 32 % 2 * 8;
-    }
+    let high = high_writable(s);
+    let old = s[HIGH_LATCHES];
+    let p22 = either(high, v / 4 % 2 == 1, old / 1 % 2 == 1);
+    let p23 = either(high, v / 8 % 2 == 1, old / 2 % 2 == 1);
+    let p25 = either(at_mode(s), v / 32 % 2 == 1, old / 8 % 2 == 1);
+    s[LATCHES] = nibble(v / 1 % 2 == 1, v / 2 % 2 == 1, false, false);
+    s[HIGH_LATCHES] = nibble(p22, p23, false, p25);
 }
 
 fn write_cell(s: &mut State, v: u8)

@@ -4,3 +4,4 @@ pub mod commands;
 pub mod data_port;
 mod mode;
 pub mod reads;
+mod second_set;

@@ -8,7 +8,7 @@ use Rattle.machine.specs.State.{fresh}
 use Rattle.machine.specs.Run.{events, answers, lengthRefusal}
 use Rattle.machine.specs.Events.{stateRefusal, refusal, accept, step, reply, lines as levels}
 use Rattle.machine.specs.Commands.{pendingOf, loadCut, plainCommand, acts, writeCommand, pulseOf}
-use Rattle.machine.specs.Lines.{nibble, highNibble, status, outputPort, putCell}
+use Rattle.machine.specs.Lines.{nibble, inputPort, highNibble, status, outputPort, putCell}
 use Rattle.printing.specs.Hex.{hexDigit, hexByte}
 use Rattle.printing.specs.Lines.{spaced, line, lines}
 use Rattle.printing.specs.Page.{header, refusedLength, answered, page}
@@ -42,5 +42,5 @@ fourth =
 pub page-worked : page ordinary (0x03 ∷ 0xAA ∷ 0 ∷ 0x02 ∷ 0 ∷ 0 ∷ 0 ∷ 0 ∷ 0 ∷ 0 ∷ 0 ∷ 0 ∷ []) ≡ head ++ first ++ second ++ third ++ fourth
 unfolding page refusedLength lengthRefusal header answered answers events fresh
     step refusal stateRefusal accept writeCommand acts loadCut pendingOf plainCommand putCell pulseOf
-    reply levels nibble highNibble status outputPort lines line spaced hexByte hexDigit
+    reply levels nibble inputPort highNibble status outputPort lines line spaced hexByte hexDigit
 page-worked = refl

@@ -11,7 +11,7 @@ use Rattle.translation.specs.Frames.{check, ones}
 use Rattle.translation.specs.ScanCodes.{translate, builtIn, rows}
 use Rattle.machine.specs.Settings.{Settings}
 use Rattle.machine.specs.State.{fresh}
-use Rattle.machine.specs.Lines.{putCell}
+use Rattle.machine.specs.Lines.{inputPort, putCell}
 use Rattle.machine.specs.DataPort.{loadByte, writeData}
 use Rattle.machine.specs.Commands.{pendingOf, loadCut, plainCommand, lockedUp, acts, writeCommand}
 use Rattle.machine.specs.Lock.{endWith, longest, begun}
@@ -37,10 +37,11 @@ second = typed 0x30 0x64
 some-injective : {e f : Event} → some e ≡ some f → e ≡ f
 some-injective p = cc
 
--- whichever settings of PS/2 mode both start with; in AT mode no code can be loaded, so that lists from fresh are paired only where they are equal
-module _ (lock : Bool) where
+-- whichever settings of PS/2 mode with the first command set both start with; in AT mode or with the second set no code can be loaded, so that
+-- lists from fresh are paired only where they are equal
+module _ (lock : Bool) (version : ℕ) where
   abbrev x : Settings
-  x = record { mouseLock = lock; atMode = false }
+  x = record { mouseLock = lock; atMode = false; secondSet = false; version = version }
 
   differ : (k : ℕ) (e f : Event) → At first k e → At second k f → Allowed (before (fresh x) first k) e f
   unfolding fresh after step refusal stateRefusal accept writeCommand acts loadCut pendingOf plainCommand lockedUp putCell writeData loadByte check ones
@@ -60,7 +61,7 @@ module _ (lock : Bool) where
   -- in both lists the lock opens at the last place and at no other
   pub opens-last : (k : ℕ) → k < 6 → (opens (fresh x) first k ≡ eqb k 5) × (opens (fresh x) second k ≡ eqb k 5)
   unfolding fresh after step refusal stateRefusal accept writeCommand acts loadCut pendingOf plainCommand lockedUp putCell writeData loadByte check ones
-      keyboardFrame soundKey translated translate builtIn rows keyed keyedByte try counted endWith longest begun
+      inputPort keyboardFrame soundKey translated translate builtIn rows keyed keyedByte try counted endWith longest begun
   opens-last zero h = (refl, refl)
   opens-last (suc zero) h = (refl, refl)
   opens-last (suc (suc zero)) h = (refl, refl)

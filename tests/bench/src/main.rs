@@ -45,7 +45,7 @@ fn profile(case: &Case) {
 fn profile_events(case: &Case) {
     case.check();
     let (mut by_library, mut by_model) = ([0; 9], [0; 9]);
-    let mut state = State::fresh(panel::ORDINARY);
+    let mut state = State::fresh(panel::ORDINARY, 0);
     let mut model = Controller::fresh(Settings::ORDINARY);
     for event in case.list.chunks_exact(3) {
         let (kind, value) = (event[0], u16::from_le_bytes([event[1], event[2]]));
@@ -62,7 +62,7 @@ fn profile_last(case: &Case) {
     let (before, last) = case.list.split_at(case.list.len() - 3);
     let (kind, value) = (last[0], u16::from_le_bytes([last[1], last[2]]));
     let (mut by_library, mut by_model) = ([0; 9], [0; 9]);
-    let mut state = State::fresh(panel::ORDINARY);
+    let mut state = State::fresh(panel::ORDINARY, 0);
     let mut model = Controller::fresh(Settings::ORDINARY);
     for event in before.chunks_exact(3) {
         let value = u16::from_le_bytes([event[1], event[2]]);

@@ -12,7 +12,7 @@ use std::hint::black_box;
 #[inline(never)]
 #[unsafe(no_mangle)]
 pub fn measured_library(list: &[u8], answers: &mut [u8]) -> u8 {
-    black_box(panel::run(panel::ORDINARY, list, answers))
+    black_box(panel::run(panel::ORDINARY, 0, list, answers))
 }
 
 #[inline(never)]

@@ -25,6 +25,12 @@ fn on(events: &[Event]) -> Vec<Event> {
     [&[Event::command(0xAE)], events].concat()
 }
 
+/// The same with D1h allowed to write P22 and P23, for which the second set asks.
+/// The first set does not know the command.
+fn on_and_allowed(events: &[Event]) -> Vec<Event> {
+    [&[Event::command(0xC8)], &on(events)[..]].concat()
+}
+
 /// A byte is sent to the keyboard, which does not take it.
 fn time_out() -> [Event; 2] {
     [Event::data(0xED), Event::new(kind::BYTE_TIMED_OUT, 0)]
@@ -120,7 +126,7 @@ fn sending() -> Vec<Scene> {
 fn pending() -> Vec<Scene> {
     let scene = |name, command, holds: Holds, next: &[Event], read: Read| Scene {
         name,
-        before: on(&[Event::command(command)]),
+        before: on_and_allowed(&[Event::command(command)]),
         holds,
         refusals: ACCEPTED,
         next: [next, &[Event::read()]].concat(),
@@ -170,7 +176,7 @@ fn off() -> Scene {
 fn latches() -> Scene {
     Scene {
         name: "latches written",
-        before: on(&write(0xD1, 0x20)),
+        before: on_and_allowed(&write(0xD1, 0x20)),
         holds: |state| state.latch_25 && !state.latch_22 && !state.latch_23,
         refusals: ACCEPTED,
         next: vec![Event::command(0xD0), Event::read()],

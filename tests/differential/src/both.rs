@@ -17,7 +17,9 @@ impl Both {
     /// A fresh controller, made where any bytes were.
     pub fn started(random: &mut Random, settings: Settings) -> Both {
         let mut both = Both::unmade(random);
-        both.fenced.state_mut().start(settings.options());
+        both.fenced
+            .state_mut()
+            .start(settings.options(), settings.version);
         both.model = Controller::fresh(settings);
         both.assert_same("start");
         both

@@ -22,7 +22,7 @@ pub fn run(random: &mut Random, settings: Settings, list: &[u8], room: usize) ->
     answers.truncate(if refusal == 0 { answers_size(list) } else { 0 });
 
     let mut buffer = Guarded::new(random, room);
-    let result = panel::run(settings.options(), list, buffer.inside());
+    let result = panel::run(settings.options(), settings.version, list, buffer.inside());
     assert_eq!(result, refusal, "refusal of a list");
     buffer.assert_begins(&answers, "answers");
     Written {

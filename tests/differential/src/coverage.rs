@@ -5,6 +5,8 @@ use crate::event::{Event, kind};
 use crate::mouse_coverage::MouseCoverage;
 use crate::noise_coverage::NoiseCoverage;
 use crate::refusals::{self, Refusals};
+use crate::second_set_coverage::SecondSetCoverage;
+use crate::under_settings::locks;
 use model::{Controller, PASSWORD_LIMIT, Pending, Settings, Verdict, judge};
 
 #[derive(Clone, Debug)]
@@ -17,6 +19,8 @@ pub struct Coverage {
     pub code_lengths: [usize; PASSWORD_LIMIT + 1],
     pub overlong_codes: usize,
     pub abandoned_loads: usize,
+    /// Events that left a code, a load or a lock.
+    pub codes: usize,
     pub locks: usize,
     pub opens: usize,
     /// The same by the length of the code.
@@ -32,10 +36,15 @@ pub struct Coverage {
     pub mouse: MouseCoverage,
     pub noise: NoiseCoverage,
     pub at_mode: AtModeCoverage,
+    pub second_set: SecondSetCoverage,
 }
 
 fn least(counts: &[usize]) -> usize {
     counts.iter().copied().min().unwrap_or(0)
+}
+
+fn has_code(state: &Controller) -> bool {
+    state.locked || state.pending == Pending::Password || !state.password.is_empty()
 }
 
 impl Coverage {
@@ -49,6 +58,7 @@ impl Coverage {
             code_lengths: [0; PASSWORD_LIMIT + 1],
             overlong_codes: 0,
             abandoned_loads: 0,
+            codes: 0,
             locks: 0,
             opens: 0,
             opened_lengths: [0; PASSWORD_LIMIT + 1],
@@ -61,6 +71,7 @@ impl Coverage {
             mouse: MouseCoverage::default(),
             noise: NoiseCoverage::default(),
             at_mode: AtModeCoverage::default(),
+            second_set: SecondSetCoverage::default(),
         }
     }
 
@@ -68,8 +79,10 @@ impl Coverage {
     pub fn note(&mut self, before: &Controller, event: Event, refusal: u8, after: &Controller) {
         self.events += 1;
         self.refusals.note(refusal);
+        self.codes += usize::from(has_code(after));
         self.noise.note(before, event, refusal);
         self.at_mode.note(before, event, refusal, after);
+        self.second_set.note(before, event, refusal, after);
         if refusal != 0 {
             return;
         }
@@ -92,9 +105,13 @@ impl Coverage {
         self.often(least(&self.commands), 17, "commands");
         self.often(least(&self.keyboard_bytes), 17, "keyboard bytes");
         self.often(self.overridden, 50, "inhibit overridden");
-        // No events from fresh load a code, lock or poll P1 in AT mode.
-        if !settings.at_mode {
+        if locks(settings) {
             self.assert_lock_reached();
+        } else {
+            assert_eq!(self.codes, 0, "codes, loads and locks");
+        }
+        // No events from fresh poll P1 in AT mode.
+        if !settings.at_mode {
             self.often(self.overlays, 500, "overlays");
         }
         for (count, situation) in self.mouse.reached(settings) {
@@ -104,6 +121,9 @@ impl Coverage {
             self.often(count, 30, &situation);
         }
         for (count, situation) in self.at_mode.reached(settings) {
+            self.often(count, 60, &situation);
+        }
+        for (count, situation) in self.second_set.reached(settings) {
             self.often(count, 60, &situation);
         }
     }

@@ -109,7 +109,7 @@ pub fn draw_other(random: &mut Random, bytes: &[u8]) -> u8 {
 #[cfg(test)]
 mod tests {
     use super::*;
-    use model::{encode, keeps_body_rules};
+    use model::keeps_state_rules;
     use std::collections::BTreeSet;
 
     #[test]
@@ -141,7 +141,7 @@ mod tests {
         for settings in Settings::ALL {
             for _ in 0..1_000 {
                 let state = draw_locked(&mut random, settings);
-                assert!(keeps_body_rules(&encode(&state)));
+                assert!(keeps_state_rules(&state));
                 let bytes: BTreeSet<_> = state.password.bytes().iter().collect();
                 assert!(bytes.len() <= 3);
                 lengths.insert(state.password.len());

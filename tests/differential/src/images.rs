@@ -66,6 +66,15 @@ fn draw_at_mode(state: &mut Controller, random: &mut Random) {
     state.transmit_timeout = random.chance(50);
 }
 
+/// What only the second set changes, and what it leaves out of an overlay.
+fn draw_second_set(state: &mut Controller, random: &mut Random) {
+    state.latches_1 = random.byte_in(0..=0x3F);
+    state.latch_22 = random.chance(50);
+    state.latch_23 = random.chance(50);
+    state.output_port_allowed = random.chance(50);
+    state.overlay = state.overlay.map(|nibble| nibble & !1);
+}
+
 /// Any state that keeps the body rules, reachable by events or not.
 pub fn state(random: &mut Random, settings: Settings) -> Controller {
     let full = random.chance(50);
@@ -98,6 +107,9 @@ pub fn state(random: &mut Random, settings: Settings) -> Controller {
     if settings.at_mode {
         draw_at_mode(&mut state, random);
     }
+    if settings.second_set {
+        draw_second_set(&mut state, random);
+    }
     maybe_lock(&mut state, random);
     state
 }
@@ -113,4 +125,21 @@ pub fn behind(random: &mut Random, image: &[u8; IMAGE_SIZE]) -> Vec<u8> {
 /// A random sound image.
 pub fn image(random: &mut Random) -> [u8; IMAGE_SIZE] {
     save(&state(random, Settings::ORDINARY))
+}
+
+#[cfg(test)]
+mod tests {
+    use super::*;
+    use crate::under_settings::ALL;
+    use model::keeps_state_rules;
+
+    #[test]
+    fn drawn_states_keep_the_rules() {
+        let mut random = Random::new(8);
+        for settings in ALL {
+            for _ in 0..2_000 {
+                assert!(keeps_state_rules(&state(&mut random, settings)));
+            }
+        }
+    }
 }

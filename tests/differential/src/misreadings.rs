@@ -3,6 +3,7 @@
 //! events have told the two apart.
 
 use crate::event::{Event, kind};
+use crate::under_settings::locks;
 use model::{Controller, Counted, Settings, Verdict, cell, entry, judge, translate};
 
 /// What an event is to the lock.
@@ -266,11 +267,11 @@ impl Misreadings {
         self.positions[0] != state.position()
     }
 
-    /// How often each misreading was told apart that can be under some settings.
-    /// In AT mode no events lock.
+    /// How often each misreading was told apart that can be under some settings:
+    /// one of them takes events that lock.
     pub fn told(&self, settings: Settings) -> Vec<(usize, &'static str)> {
         let counting = self.counting_told.into_iter().zip(OF_COUNTING);
-        let by_locking = usize::from(settings.at_mode);
+        let by_locking = usize::from(!locks(settings));
         let wrong_keys = self.wrong_keys_told.into_iter().zip(OF_WRONG_KEYS);
         let mut all: Vec<_> = counting
             .map(|(told, (name, _))| (told, name))

@@ -1,6 +1,7 @@
 //! Counts what comes from the mouse by all that the mouse lock depends on.
 
 use crate::event::{Event, kind};
+use crate::under_settings::locks;
 use model::{Controller, Device, Settings, Verdict, judge, mode};
 use std::collections::BTreeMap;
 
@@ -52,14 +53,16 @@ fn arrival(before: &Controller, event: Event) -> Option<Arrival> {
     }
 }
 
-/// All that can come under some settings: in AT mode there is no mouse. Nothing
-/// is being sent while locked, so no time-out comes then.
+/// All that can come under some settings: in AT mode there is no mouse, and with
+/// the second set no lock. Nothing is being sent while locked, so no time-out
+/// comes then.
 fn situations(settings: Settings) -> Vec<Situation> {
     let mut all = Vec::new();
     if settings.at_mode {
         return all;
     }
-    for bits in 0..8 {
+    let bits = if locks(settings) { 0..8 } else { 0..4 };
+    for bits in bits {
         let situation = |arrival| Situation {
             arrival,
             mouse_lock: settings.mouse_lock,
@@ -116,7 +119,11 @@ mod tests {
     #[test]
     fn each_situation_is_asked_for_once() {
         for settings in Settings::ALL {
-            let expected = if settings.at_mode { 0 } else { 8 * 4 + 4 };
+            let expected = match (settings.at_mode, settings.second_set) {
+                (true, _) => 0,
+                (false, false) => 8 * 4 + 4,
+                (false, true) => 4 * 4 + 4,
+            };
             let mut all = situations(settings);
             assert_eq!(all.len(), expected);
             all.sort();

@@ -2,6 +2,7 @@
 //! refused them.
 
 use crate::event::Event;
+use crate::under_settings::locks;
 use model::{Controller, Device, Pending, Settings, mode};
 
 const DEVICES: [Device; 2] = [Device::Keyboard, Device::Mouse];
@@ -12,8 +13,10 @@ type Holds = fn(&Controller) -> bool;
 type Possible = fn(Settings) -> bool;
 
 const EVER: Possible = |_| true;
-/// It takes a mouse, a loaded code or a polled P1.
+/// It takes a mouse or a polled P1.
 const PS2: Possible = |settings| !settings.at_mode;
+/// It takes a loaded code.
+const LOCKS: Possible = locks;
 const AT: Possible = |settings| settings.at_mode;
 
 /// What may hold where noise comes; more than one of these at a time.
@@ -32,25 +35,25 @@ const STANDINGS: [(&str, Possible, Holds); 21] = [
     ("key turned", EVER, |state| state.key_turned()),
     ("inhibited", EVER, |state| state.inhibited()),
     ("inhibit overridden", EVER, overridden),
-    ("a code being loaded", PS2, |state| {
+    ("a code being loaded", LOCKS, |state| {
         state.pending == Pending::Password
     }),
     ("another code pending", EVER, other_pending),
     ("overlay", PS2, |state| state.overlay.is_some()),
-    ("locked before a code", PS2, |state| {
+    ("locked before a code", LOCKS, |state| {
         state.locked && !within(state)
     }),
-    ("within a code", PS2, within),
-    ("within a code, TERR", PS2, |state| {
+    ("within a code", LOCKS, within),
+    ("within a code, TERR", LOCKS, |state| {
         within(state) && state.timeout_error
     }),
-    ("within a code, PERR", PS2, |state| {
+    ("within a code, PERR", LOCKS, |state| {
         within(state) && state.parity_error
     }),
-    ("within a code, break flag", PS2, |state| {
+    ("within a code, break flag", LOCKS, |state| {
         within(state) && state.break_flag
     }),
-    ("within a code, inhibited", PS2, |state| {
+    ("within a code, inhibited", LOCKS, |state| {
         within(state) && state.inhibited()
     }),
 ];

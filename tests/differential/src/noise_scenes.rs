@@ -2,6 +2,8 @@
 
 use crate::at_mode_scenes;
 use crate::event::{Event, kind};
+use crate::second_set_scenes;
+use crate::under_settings::locks;
 use model::{Controller, Device, Pending, Settings, mode};
 
 pub(crate) const BROKEN: u16 = 1022;
@@ -31,11 +33,15 @@ pub struct Scene {
 }
 
 pub fn scenes(settings: Settings) -> Vec<Scene> {
-    if settings.at_mode {
+    let mut all = if settings.at_mode {
         at_mode_scenes::scenes()
     } else {
         scenes_in_ps2_mode(settings)
+    };
+    if settings.second_set {
+        all.extend(second_set_scenes::scenes(settings));
     }
+    all
 }
 
 fn scenes_in_ps2_mode(settings: Settings) -> Vec<Scene> {
@@ -44,10 +50,11 @@ fn scenes_in_ps2_mode(settings: Settings) -> Vec<Scene> {
     all.extend(breaks());
     all.extend(sending());
     all.extend(off());
-    all.extend(pending());
-    all.extend(within_a_code());
-    all.push(key_turned(settings));
-    all.push(notice());
+    all.extend([key_turned(settings), byte_to_be_put()]);
+    if locks(settings) {
+        all.extend([code_being_loaded(), overlay(), notice()]);
+        all.extend(within_a_code());
+    }
     all
 }
 
@@ -202,36 +209,41 @@ fn off() -> Vec<Scene> {
     ]
 }
 
-fn pending() -> Vec<Scene> {
+fn code_being_loaded() -> Scene {
     let rest_of_code = [Event::data(0x30), Event::data(0), Event::command(0xA6)];
     let keys = [Event::key(0x1C), Event::key(0x32)];
-    vec![
-        Scene {
-            name: "a code being loaded",
-            before: on(&write(0xA5, 0x1E)),
-            holds: |state| state.pending == Pending::Password,
-            refusals: [0, 0],
-            // The code is whole, so its keys open, and the next key is put.
-            next: [&rest_of_code[..], &keys, &key_and_read()].concat(),
-            reads: vec![[0x1E, 0]],
-        },
-        Scene {
-            name: "a byte to be put",
-            before: on(&[Event::command(0xD2)]),
-            holds: |state| state.pending == Pending::Output,
-            refusals: [0, 0],
-            next: vec![Event::data(0x77), Event::read()],
-            reads: vec![[0x77, 0]],
-        },
-        Scene {
-            name: "an overlay",
-            before: on(&[Event::pins(0xA5), Event::command(0xC1)]),
-            holds: |state| state.overlay == Some(5),
-            refusals: [0, 0],
-            next: [vec![Event::status()], key_and_read()].concat(),
-            reads: vec![[0x1E, 0]],
-        },
-    ]
+    Scene {
+        name: "a code being loaded",
+        before: on(&write(0xA5, 0x1E)),
+        holds: |state| state.pending == Pending::Password,
+        refusals: [0, 0],
+        // The code is whole, so its keys open, and the next key is put.
+        next: [&rest_of_code[..], &keys, &key_and_read()].concat(),
+        reads: vec![[0x1E, 0]],
+    }
+}
+
+fn byte_to_be_put() -> Scene {
+    Scene {
+        name: "a byte to be put",
+        before: on(&[Event::command(0xD2)]),
+        holds: |state| state.pending == Pending::Output,
+        refusals: [0, 0],
+        next: vec![Event::data(0x77), Event::read()],
+        reads: vec![[0x77, 0]],
+    }
+}
+
+/// The first set's; that of the second is another.
+fn overlay() -> Scene {
+    Scene {
+        name: "an overlay",
+        before: on(&[Event::pins(0xA5), Event::command(0xC1)]),
+        holds: |state| state.overlay == Some(5),
+        refusals: [0, 0],
+        next: [vec![Event::status()], key_and_read()].concat(),
+        reads: vec![[0x1E, 0]],
+    }
 }
 
 /// Locked with 1Eh 30h 2Eh and a notice for when it opens.

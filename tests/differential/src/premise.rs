@@ -60,7 +60,7 @@ pub fn comparable_from(state: &Controller, first: &[u8], second: &[u8]) -> bool 
 mod tests {
     use super::*;
     use crate::few_keys;
-    use crate::under_settings::{MOUSE_LOCK, ORDINARY};
+    use crate::under_settings::{MOUSE_LOCK, ORDINARY, locks};
     use model::mode;
 
     /// Switches the keyboard on, loads two bytes, locks and types two keys.
@@ -80,11 +80,11 @@ mod tests {
         .collect()
     }
 
-    /// In AT mode no code is loaded from fresh, so no two lists differ in
-    /// secrets only.
+    /// In AT mode and with the second set no code is loaded from fresh, so no two
+    /// lists differ in secrets only.
     fn secrets_may_differ_where_the_lock_opens_alike(settings: Settings) {
         let pair = |one: &[u8], other: &[u8]| comparable(settings, one, other);
-        let loads = !settings.at_mode;
+        let loads = locks(settings);
         let opened = list([0x1E, 0x30], [0x1C, 0x32]);
         assert!(pair(&opened, &opened));
         let other_opened = list([0x30, 0x1E], [0x32, 0x1C]);
@@ -107,7 +107,7 @@ mod tests {
         assert!(!pair(&base, &other_command));
     }
 
-    /// The lock is shut from the start, in AT mode too.
+    /// The lock is shut from the start, under all settings.
     fn keys_may_differ_from_a_locked_state(settings: Settings) {
         let mut state = Controller::fresh(settings);
         state.clear_mode(mode::KEYBOARD_OFF);
@@ -155,7 +155,7 @@ mod tests {
         assert!(!pair(&shut, &typed_at(&palindrome, &[a, a, b, a])));
     }
 
-    /// From a lock that is shut within its code, in AT mode too.
+    /// From a lock that is shut within its code, under all settings.
     fn slips_move_no_opening_from_a_locked_state(settings: Settings) {
         let [a, b, other] = [0x1C, 0x32, 0x21];
         let list = |keys: &[u8]| -> Vec<u8> {
@@ -236,7 +236,7 @@ mod tests {
         let opened = noisy([0x1E, 0x30], [0x1C, 0x32], 0x629);
         let same_noise = noisy([0x30, 0x1E], [0x32, 0x1C], 0x629);
         let comparable_codes = comparable(settings, &opened, &same_noise);
-        assert_eq!(comparable_codes, !settings.at_mode);
+        assert_eq!(comparable_codes, locks(settings));
         for value in noise_values().filter(|&value| value != 0x629) {
             let other_noise = noisy([0x30, 0x1E], [0x32, 0x1C], value);
             assert!(!comparable(settings, &opened, &other_noise), "{value:03X}");

@@ -1,5 +1,6 @@
 //! Counts the checks that refuse events.
 
+use crate::under_settings::locks;
 use model::Settings;
 
 const LAST: usize = 12;
@@ -17,13 +18,13 @@ pub fn in_any_state(settings: Settings) -> &'static [u8] {
     }
 }
 
-/// The same where the state was reached from fresh. In AT mode no events close
-/// the lock, which check 4 asks for.
+/// The same where the state was reached from fresh. In AT mode and with the
+/// second set no events close the lock, which check 4 asks for.
 pub fn from_fresh(settings: Settings) -> &'static [u8] {
-    if settings.at_mode {
-        &[0, 1, 2, 3, 5, 6, 12]
-    } else {
-        in_any_state(settings)
+    match (locks(settings), settings.at_mode) {
+        (true, _) => in_any_state(settings),
+        (false, false) => &[0, 1, 2, 3, 5, 6],
+        (false, true) => &[0, 1, 2, 3, 5, 6, 12],
     }
 }
 

@@ -1,5 +1,5 @@
 //! States made by hand, reachable by events or not, for tests that go through
-//! every command and every frame. All of them keep the body rules.
+//! every command and every frame. All of them keep the rules for a state.
 
 use model::{Controller, Device, Password, Pending, Settings};
 
@@ -42,15 +42,37 @@ pub fn fill(state: &mut Controller, source: Option<Device>) {
     }
 }
 
-/// One of the patterns that the latches of a mode can have, all of them in turn.
+/// One of the patterns that the latches of P2 can have in a mode and with a set,
+/// all of them in turn.
 pub fn set_latches(state: &mut Controller, number: usize) {
     let bit = |place: usize| number >> place & 1 != 0;
     state.latch_20 = bit(0);
     state.latch_21 = bit(1);
-    if state.settings.at_mode {
+    if state.settings.at_mode || state.settings.second_set {
         state.latch_22 = bit(2);
         state.latch_23 = bit(3);
+    }
+    if state.settings.at_mode {
         state.latch_25 = bit(4);
+    }
+}
+
+/// One of the patterns that the latches of P1 can have with a set, and the leave
+/// for D1h given or not; all of them in turn.
+pub fn set_input_latches(state: &mut Controller, number: usize) {
+    if state.settings.second_set {
+        state.latches_1 = number as u8 & 0x3F;
+        state.output_port_allowed = number >> 6 & 1 != 0;
+    }
+}
+
+/// One of the nibbles that an overlay can have with a set, all of them in turn.
+pub fn overlay_nibble(settings: Settings, number: usize) -> u8 {
+    let nibble = number as u8 % 16;
+    if settings.second_set {
+        nibble & !1
+    } else {
+        nibble
     }
 }
 
@@ -65,12 +87,13 @@ pub fn set_code(state: &mut Controller, number: usize) {
 #[cfg(test)]
 mod tests {
     use super::*;
-    use model::{encode, keeps_body_rules, state_bytes};
+    use crate::under_settings::ALL;
+    use model::{keeps_state_rules, state_bytes};
     use std::collections::BTreeSet;
 
     #[test]
     fn error_mixes_are_those_of_the_mode() {
-        for settings in Settings::ALL {
+        for settings in ALL {
             let mut seen = BTreeSet::new();
             for errors in error_mixes(settings) {
                 let mut state = Controller::fresh(settings);
@@ -82,17 +105,45 @@ mod tests {
     }
 
     #[test]
-    fn latches_take_every_pattern_of_the_mode() {
-        for settings in Settings::ALL {
+    fn latches_take_every_pattern_of_the_mode_and_the_set() {
+        for settings in ALL {
             let mut seen = BTreeSet::new();
             for number in 0..32 {
                 let mut state = Controller::fresh(settings);
                 set_latches(&mut state, number);
-                seen.insert(state.output_port());
-                let rest = state_bytes(&state)[62];
-                assert!(settings.at_mode || rest == 0x03);
+                assert!(keeps_state_rules(&state));
+                let bytes = state_bytes(&state);
+                seen.insert([bytes[3], bytes[62]]);
             }
-            assert_eq!(seen.len(), if settings.at_mode { 32 } else { 4 });
+            let patterns = match (settings.at_mode, settings.second_set) {
+                (true, _) => 32,
+                (false, true) => 16,
+                (false, false) => 4,
+            };
+            assert_eq!(seen.len(), patterns);
+        }
+    }
+
+    #[test]
+    fn input_latches_and_overlays_are_those_of_the_set() {
+        for settings in ALL {
+            let mut seen = BTreeSet::new();
+            let mut nibbles = BTreeSet::new();
+            for number in 0..128 {
+                let mut state = Controller::fresh(settings);
+                set_input_latches(&mut state, number);
+                state.overlay = Some(overlay_nibble(settings, number));
+                assert!(keeps_state_rules(&state));
+                let bytes = state_bytes(&state);
+                seen.insert([bytes[60], bytes[61]]);
+                nibbles.insert(bytes[7]);
+            }
+            let (patterns, overlays) = if settings.second_set {
+                (128, 8)
+            } else {
+                (1, 16)
+            };
+            assert_eq!((seen.len(), nibbles.len()), (patterns, overlays));
         }
     }
 
@@ -106,7 +157,7 @@ mod tests {
                 fill(&mut state, source);
                 set_code(&mut state, number);
                 lengths.insert(state.password.len());
-                assert!(keeps_body_rules(&encode(&state)));
+                assert!(keeps_state_rules(&state));
             }
         }
         assert_eq!(lengths.len(), LENGTHS.len());

@@ -3,6 +3,7 @@
 
 use crate::event::Event;
 use crate::misreadings::{Happening, Misreadings};
+use crate::under_settings::locks;
 use model::{Controller, PASSWORD_LIMIT, Settings};
 
 #[derive(Clone, Debug, Default)]
@@ -93,8 +94,7 @@ impl SlipCoverage {
             (self.damaged[0], 1_000, "broken frames within a code"),
             (self.damaged[1], 1_000, "wrong parity within a code"),
         ];
-        // No events lock in AT mode.
-        if !settings.at_mode {
+        if locks(settings) {
             all.push((self.shut_anew, 3_000, "locks shut anew"));
         }
         let misread = self.misreadings.told(settings).into_iter();

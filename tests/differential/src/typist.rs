@@ -8,6 +8,7 @@ use crate::keys;
 use crate::lists;
 use crate::random::Random;
 use crate::slip_coverage::SlipCoverage;
+use crate::under_settings::locks;
 use crate::unguided;
 use model::{Controller, Pending, cell, mode};
 
@@ -182,10 +183,10 @@ impl Typist {
     }
 }
 
-/// Nothing more comes of a lock that cannot open, or of one that is open in AT
-/// mode, where no events shut it.
+/// Nothing more comes of a lock that cannot open, or of one that is open where
+/// no events shut it.
 pub fn done(state: &Controller) -> bool {
-    lists::stuck(state) || state.settings.at_mode && !state.locked && !state.full
+    lists::stuck(state) || !locks(state.settings) && !state.locked && !state.full
 }
 
 /// At most `length` events from a state, which is left as after them.

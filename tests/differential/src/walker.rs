@@ -1,6 +1,7 @@
 //! Chooses events that make sense in the state at hand.
 
 mod at_mode;
+mod second_set;
 
 use crate::event::{Event, kind};
 use crate::keys;
@@ -22,7 +23,7 @@ pub struct Walker {
     code_length: usize,
     /// Share of these, in percent, that repeat another.
     repeats: usize,
-    /// A command that AT mode switches off has come, and no byte after it.
+    /// A command that the settings switch off has come, and no byte after it.
     data_due: bool,
 }
 
@@ -60,6 +61,8 @@ impl Walker {
         }
         if state.locked {
             self.while_locked(state)
+        } else if let Some(event) = self.of_second_set(state) {
+            event
         } else if state.settings.at_mode {
             self.while_open_in_at_mode(state)
         } else if state.sending.is_some() {

@@ -6,9 +6,11 @@ use crate::lists;
 use crate::random::Random;
 use crate::unguided;
 use crate::walker::Walker;
+use model::keeps_state_rules;
 
 /// At most `length` events that follow the machine. Before each one both are
-/// asked about it and about another, and after it the lines are looked at.
+/// asked about it and about another, and after it the lines are looked at and the
+/// rules for a state are kept.
 pub fn walk(both: &mut Both, seed: u64, length: usize, coverage: &mut Coverage) {
     let mut walker = Walker::new(seed);
     let mut random = Random::new(!seed);
@@ -20,6 +22,7 @@ pub fn walk(both: &mut Both, seed: u64, length: usize, coverage: &mut Coverage) 
         let answer = both.event(&mut random, event);
         assert_eq!(answer[0], refusal, "foretold refusal of {event:?}");
         both.look(&mut random);
+        assert!(keeps_state_rules(&both.model), "{event:?} on {before:?}");
         coverage.note(&before, event, refusal, &both.model);
         if lists::stuck(&both.model) && random.chance(3) {
             break;

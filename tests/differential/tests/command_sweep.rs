@@ -1,15 +1,17 @@
 //! Every command from states with each of the pending codes, then a byte and
 //! what shows what it did. In AT mode no events leave codes 3, 5, 6 and 7 or an
-//! overlay, so the states are made by hand.
+//! overlay, and with the second set none leave code 3, so the states are made by
+//! hand.
 
 use differential::both::Both;
 use differential::event::{Event, kind};
 use differential::random::Random;
 use differential::refusals::Refusals;
 use differential::situations::{
-    Errors, OUTPUTS, PENDINGS, error_mixes, fill, set_code, set_errors, set_latches,
+    Errors, OUTPUTS, PENDINGS, error_mixes, fill, overlay_nibble, set_code, set_errors,
+    set_input_latches, set_latches,
 };
-use differential::under_settings::seed;
+use differential::under_settings::{locks, seed};
 use model::{Controller, Device, Pending, Settings, mode};
 
 /// P1 with bits of either value in both nibbles.
@@ -26,17 +28,19 @@ struct Standing {
 }
 
 /// A state with something for most commands to change. Its number decides the
-/// command byte, the code and the overlay's nibble.
+/// command byte, the code, the overlay's nibble and what the second set adds.
 fn state(settings: Settings, standing: Standing, number: usize) -> Controller {
     let mut state = Controller::fresh(settings);
     state.ram = std::array::from_fn(|cell| 0xC0 ^ cell as u8);
     state.ram[0] = (number * 29) as u8 & !mode::UNUSED;
     state.pins = PINS;
     state.pending = standing.pending;
-    state.overlay = standing.overlay.then_some(number as u8 % 16);
+    let nibble = overlay_nibble(settings, number);
+    state.overlay = standing.overlay.then_some(nibble);
     fill(&mut state, standing.source);
     set_errors(&mut state, standing.errors);
     set_latches(&mut state, standing.latches);
+    set_input_latches(&mut state, number * 13);
     set_code(&mut state, number);
     state
 }
@@ -83,9 +87,9 @@ fn states(settings: Settings) -> Vec<Controller> {
         .collect()
 }
 
-/// A byte, what waits then, the end of a byte that is being sent, and the
-/// output port.
-fn what_follows(byte: u8, end: u8) -> [Event; 7] {
+/// A byte, what waits then, the end of a byte that is being sent, the output
+/// port and the input port.
+fn what_follows(byte: u8, end: u8) -> [Event; 9] {
     [
         Event::data(byte),
         Event::status(),
@@ -93,6 +97,8 @@ fn what_follows(byte: u8, end: u8) -> [Event; 7] {
         Event::new(end, 0),
         Event::read(),
         Event::command(0xD0),
+        Event::read(),
+        Event::command(0xC0),
         Event::read(),
     ]
 }
@@ -116,11 +122,7 @@ fn every_command_over_every_pending_code(settings: Settings) {
     }
     // The end of a byte that was not being sent, and writes once A6h has locked.
     println!("{refusals:?}");
-    let possible: &[u8] = if settings.at_mode {
-        &[0, 6]
-    } else {
-        &[0, 4, 6]
-    };
+    let possible: &[u8] = if locks(settings) { &[0, 4, 6] } else { &[0, 6] };
     assert!(refusals.least(possible) > 100);
 }
 
@@ -147,17 +149,20 @@ fn every_command_within_a_load(settings: Settings) {
         }
     }
     // A6h locks with a code that a zero has ended.
-    let possible: &[u8] = if settings.at_mode { &[0] } else { &[0, 4] };
+    let possible: &[u8] = if locks(settings) { &[0, 4] } else { &[0] };
     assert!(refusals.least(possible) > 0);
 }
 
-/// Each pattern of the latches over each other, by D1h.
+/// Each pattern of the latches over each other, by D1h, allowed and forbidden
+/// where the set asks for that.
 fn every_byte_over_every_latch_pattern(settings: Settings) {
     let mut random = Random::new(seed(settings, 113));
-    for pattern in 0..32 {
+    let sides = if settings.second_set { 2 } else { 1 };
+    for number in 0..32 * sides {
         for byte in 0..=0xFF {
             let mut state = Controller::fresh(settings);
-            set_latches(&mut state, pattern);
+            set_latches(&mut state, number % 32);
+            set_input_latches(&mut state, number * 2);
             let mut both = Both::of(&mut random, &state);
             let events = [Event::command(0xD1), Event::data(byte)];
             let shown = [Event::command(0xD0), Event::read(), Event::command(byte)];

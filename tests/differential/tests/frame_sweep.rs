@@ -91,7 +91,8 @@ fn every_frame_over_every_mix_of_errors(settings: Settings) {
 }
 
 /// The same with a break flag, at the lock and within its code, where one key
-/// opens and another leaves the position. In AT mode no events shut it.
+/// opens and another leaves the position. In AT mode and with the second set no
+/// events shut it.
 fn every_keyboard_frame_at_the_lock_and_after_f0h(settings: Settings) {
     let mut random = Random::new(seed(settings, 122));
     let way = ways().next().expect("nothing in the way");

@@ -8,7 +8,7 @@ use differential::lists;
 use differential::random::Random;
 use differential::refusals::{self, Refusals};
 use differential::rounds::rounds;
-use differential::under_settings::seed;
+use differential::under_settings::{locks, seed};
 use differential::walks::walk;
 use model::{Controller, Device, EVENT_SIZE, IMAGE_SIZE, Pending, Settings, mode};
 
@@ -47,7 +47,7 @@ fn walks_from_drawn_states(settings: Settings) {
         );
     }
     assert!(coverage.opens > 200);
-    assert!(settings.at_mode || coverage.locks > 200);
+    assert!(!locks(settings) || coverage.locks > 200);
 }
 
 /// Fresh, a full buffer, the key switch turned with its inhibit overridden or
@@ -138,11 +138,12 @@ fn lists_go_on_from_the_state(settings: Settings) {
         run_in_pieces(&mut both, &mut random, &list);
         assert_eq!(both.model, end);
     }
-    // In AT mode a lock is drawn shut, in every third list or so, and opens once.
-    if settings.at_mode {
-        assert!(coverage.opens > 50, "{}", coverage.opens);
-    } else {
+    // Where no events lock a lock is drawn shut, in every third list or so, and
+    // opens once.
+    if locks(settings) {
         assert!(coverage.locks > 200 && coverage.opens > 200);
+    } else {
+        assert!(coverage.opens > 50, "{}", coverage.opens);
     }
 }
 
@@ -177,7 +178,7 @@ fn what_is_saved_begins_with_the_body_and_is_loaded_again(settings: Settings) {
         let mut other = Both::started(&mut random, settings);
         assert_eq!(other.load(&saved), 0);
         assert_eq!(other.bytes()[..60], both.bytes()[..60]);
-        assert_eq!(other.bytes()[60..], [panel::ORDINARY, 0, 0x03, 0]);
+        assert_eq!(other.bytes()[60..], [panel::ORDINARY, 0x3F, 0x03, 0, 0]);
     }
 }
 
@@ -196,9 +197,10 @@ const CODE: [u8; 16] = [
     0x81, 0x82, 0x83, 0x84, 0x85, 0x86, 0x87, 0x88, 0x89, 0x8A, 0x8B, 0x8C, 0x8D, 0x8E, 0x8F, 0x91,
 ];
 
-/// A controller that is ready to load a code. In AT mode no event makes one.
+/// A controller that is ready to load a code. In AT mode and with the second set
+/// no event makes one.
 fn before_load(random: &mut Random, settings: Settings) -> Both {
-    if settings.at_mode {
+    if !locks(settings) {
         let mut state = Controller::fresh(settings);
         state.pending = Pending::Password;
         return Both::of(random, &state);
@@ -238,11 +240,11 @@ fn assert_new_loads_drop(random: &mut Random, settings: Settings, length: usize)
     assert_no_code(&both, "a new load in a list");
 }
 
-/// In AT mode A5h is an unknown command, which cuts a load short and leaves a
-/// code that is whole.
+/// In AT mode and with the second set A5h is an unknown command, which cuts a
+/// load short and leaves a code that is whole.
 fn a_whole_code_is_left_by_what_does_not_load(settings: Settings) {
     let mut random = Random::new(seed(settings, 70));
-    let drops = |command| !settings.at_mode && command == 0xA5;
+    let drops = |command| locks(settings) && command == 0xA5;
     for length in 1..=16 {
         for command in (0..=0xFF).filter(|&command| !drops(command)) {
             let mut both = with_code(&mut random, settings, length, true);
@@ -255,7 +257,7 @@ fn a_whole_code_is_left_by_what_does_not_load(settings: Settings) {
 fn a_dropped_code_leaves_zeros(settings: Settings) {
     let mut random = Random::new(seed(settings, 69));
     for length in 1..=16 {
-        if !settings.at_mode {
+        if locks(settings) {
             assert_new_loads_drop(&mut random, settings, length);
         }
         for command in [0x00, 0x20, 0xA4, 0xA5, 0xA6, 0xAA, 0xFF] {

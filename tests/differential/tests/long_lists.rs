@@ -24,7 +24,7 @@ fn expected(state: &mut Controller, list: &[u8], room: usize) -> Vec<u8> {
 }
 
 fn compare(random: &mut Random, settings: Settings, list: &[u8], room: usize) {
-    let mut state = State::fresh(settings.options());
+    let mut state = State::fresh(settings.options(), settings.version);
     let mut model = Controller::fresh(settings);
     let mut answers = Guarded::new(random, room);
     state.run_fitting(list, answers.inside());

@@ -87,7 +87,7 @@ fn every_noise_frame_in_every_scene(settings: Settings) {
 
 /// Runs a list from fresh by the library alone.
 fn run(settings: Settings, list: &[u8]) -> (Vec<u8>, State) {
-    let mut state = State::fresh(settings.options());
+    let mut state = State::fresh(settings.options(), settings.version);
     let mut answers = vec![0; list.len() / EVENT_SIZE * ANSWER_SIZE];
     state.run_fitting(list, &mut answers);
     (answers, state)
@@ -96,7 +96,7 @@ fn run(settings: Settings, list: &[u8]) -> (Vec<u8>, State) {
 /// The lines at the start by the library alone.
 fn first_lines(settings: Settings) -> [u8; ANSWER_SIZE] {
     let mut lines = [0; ANSWER_SIZE];
-    State::fresh(settings.options()).lines(&mut lines);
+    State::fresh(settings.options(), settings.version).lines(&mut lines);
     lines
 }
 

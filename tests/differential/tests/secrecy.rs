@@ -7,13 +7,13 @@ use differential::pairs::{self, Pair, PairCoverage};
 use differential::premise::{comparable, comparable_from};
 use differential::random::Random;
 use differential::rounds::rounds;
-use differential::under_settings::{MOUSE_LOCK, ORDINARY, seed};
+use differential::under_settings::{MOUSE_LOCK, ORDINARY, locks, seed};
 use model::{Controller, EVENT_SIZE, Settings, mode, state_bytes};
 use panel::State;
 
 const PAIRS: usize = 8_000;
-/// In AT mode no code can be loaded from fresh, so the lists of a pair are the
-/// same there and need no more than this.
+/// In AT mode and with the second set no code can be loaded from fresh, so the
+/// lists of a pair are the same there and need no more than this.
 const EQUAL_PAIRS: usize = 500;
 const DRAWN_STATES: usize = 3_000;
 const PAIRS_WITH_SLIPS: usize = 3_000;
@@ -21,7 +21,9 @@ const PAIRS_WITH_SLIPS: usize = 3_000;
 /// Runs both lists from fresh in buffers that begin alike and compares all of
 /// them.
 fn assert_alike(random: &mut Random, settings: Settings, pair: &Pair, room: usize) -> u8 {
-    let run = |list: &[u8], answers: &mut [u8]| panel::run(settings.options(), list, answers);
+    let run = |list: &[u8], answers: &mut [u8]| {
+        panel::run(settings.options(), settings.version, list, answers)
+    };
     assert_alike_by(run, random, pair, room)
 }
 
@@ -88,7 +90,7 @@ fn assert_shares(coverage: &PairCoverage, wanted: &[(usize, usize, &str)]) {
 fn pairs_are_answered_alike(settings: Settings) {
     let mut random = Random::new(seed(settings, 51));
     let mut coverage = PairCoverage::default();
-    let pairs = if settings.at_mode { EQUAL_PAIRS } else { PAIRS };
+    let pairs = if locks(settings) { PAIRS } else { EQUAL_PAIRS };
     for number in 0..(pairs * rounds()) as u64 {
         let length = random.pick(&[100, 300, 300, 1_000, 3_000]);
         let seed = seed(settings, 700_000 + number);
@@ -97,9 +99,9 @@ fn pairs_are_answered_alike(settings: Settings) {
         assert!(comparable, "pair {number}");
         let room = pair.first.len() * 3 + random.below(20);
         assert_eq!(assert_alike(&mut random, settings, &pair, room), 0);
-        assert!(!settings.at_mode || pair.first == pair.second);
+        assert!(locks(settings) || pair.first == pair.second);
     }
-    if !settings.at_mode {
+    if locks(settings) {
         assert_reached(&coverage);
     }
 }
@@ -115,8 +117,8 @@ fn locked(random: &mut Random, settings: Settings) -> Controller {
     }
 }
 
-/// Pairs from a state that is locked at the start, which in AT mode no events
-/// make. They differ in the keys that are tried.
+/// Pairs from a state that is locked at the start, which events make in PS/2
+/// mode with the first set only. They differ in the keys that are tried.
 fn pairs_from_locked_states_are_answered_alike(settings: Settings) {
     let mut random = Random::new(seed(settings, 53));
     let mut coverage = PairCoverage::default();
@@ -147,7 +149,7 @@ fn assert_alike_from(random: &mut Random, state: &Controller, pair: &Pair, what:
 }
 
 /// Pairs whose codes have few keys and differ, so that both lists slip, each in
-/// its own way. In AT mode no code can be loaded from fresh.
+/// its own way. Under no other settings can a code be loaded from fresh.
 #[test]
 fn pairs_with_slips_are_answered_alike() {
     for settings in [ORDINARY, MOUSE_LOCK] {
@@ -180,8 +182,8 @@ fn assert_slips_alike(settings: Settings) {
     );
 }
 
-/// The same from a state that is locked at the start, in AT mode too. There is
-/// one code, and both lists begin at the same position of it.
+/// The same from a state that is locked at the start, under all settings. There
+/// is one code, and both lists begin at the same position of it.
 fn pairs_with_slips_from_locked_states_are_answered_alike(settings: Settings) {
     let mut random = Random::new(seed(settings, 55));
     let mut coverage = PairCoverage::default();

@@ -1,4 +1,5 @@
-//! The start settings: the options byte of each call that takes or holds it.
+//! The start settings: the options byte and the version byte of each call that
+//! takes or holds them.
 
 use differential::both::Both;
 use differential::compare::{self, Room};
@@ -8,53 +9,70 @@ use differential::guarded::Guarded;
 use differential::images;
 use differential::lists;
 use differential::random::Random;
-use differential::under_settings::{AT_MODE, AT_MODE_AND_MOUSE_LOCK, MOUSE_LOCK};
+use differential::under_settings::{ALL, AT_MODE, AT_MODE_AND_MOUSE_LOCK, MOUSE_LOCK};
 use model::{Controller, IMAGE_SIZE, Settings, state_bytes};
 
 /// The mouse on, the key switch turned, a sound mouse frame and a read, which
 /// gives 14h unless the mouse lock or AT mode is on; then a byte to the keyboard
-/// that times out.
-const LIST: [u8; 18] = [
-    3, 0xA8, 0, 8, 0x7F, 0, 5, 0x28, 0x06, 0, 0, 0, 1, 0xED, 0, 7, 0, 0,
+/// that times out, and at last A1h and a read, which gives the version byte with
+/// the second set and else the FEh of the time-out.
+const LIST: [u8; 24] = [
+    3, 0xA8, 0, 8, 0x7F, 0, 5, 0x28, 0x06, 0, 0, 0, 1, 0xED, 0, 7, 0, 0, 3, 0xA1, 0, 0, 0, 0,
 ];
 
+/// Every options byte with every version byte. Bit 3 stands in a state for the
+/// leave of D1h, which no start gives.
 #[test]
-fn only_two_bits_of_the_options_start_anything() {
+fn only_three_bits_of_the_options_start_anything() {
     let mut random = Random::new(91);
     let ordinary = state_bytes(&Controller::fresh(Settings::ORDINARY));
+    let mut fenced = Fenced::new(&mut random);
     for options in 0..=0xFF {
-        let mut fenced = Fenced::new(&mut random);
-        fenced.state_mut().start(options);
-        let mut expected = ordinary;
-        expected[60] = options % 4;
-        fenced.assert_bytes(&expected, &format!("a start with {options:02X}"));
+        for version in 0..=0xFF {
+            fenced.state_mut().start(options, version);
+            let mut expected = ordinary;
+            expected[60] = options % 8;
+            expected[64] = version;
+            let what = format!("a start with {options:02X} and {version:02X}");
+            fenced.assert_bytes(&expected, &what);
+        }
+        fenced = Fenced::new(&mut random);
     }
 }
 
+/// The check of the mouse frame, the byte read, the error of the time-out, the
+/// byte read at last.
+fn told(answers: &[u8; 72]) -> [u8; 4] {
+    [answers[18], answers[28], answers[48] & 0xE0, answers[64]]
+}
+
 #[test]
-fn only_two_bits_of_the_options_change_a_run() {
+fn only_three_bits_of_the_options_change_a_run() {
     let mut random = Random::new(92);
     for options in 0..=0xFF {
-        let mut answers = Guarded::new(&mut random, 54);
-        assert_eq!(panel::run(options, &LIST, answers.inside()), 0);
-        let mut expected = [0; 54];
-        model::run(Settings::from_options(options), &LIST, &mut expected);
-        answers.assert_begins(&expected, &format!("a run with {options:02X}"));
-        // The check of the mouse frame, the byte read, the error of the time-out.
-        let told = [expected[18], expected[28], expected[48] & 0xE0];
-        let wanted = match options % 4 {
-            0 => [0, 0x14, 0x40],
-            1 => [0, 0x00, 0x40],
-            _ => [12, 0x00, 0x20],
-        };
-        assert_eq!(told, wanted, "options {options:02X}");
+        for version in 0..=0xFF {
+            let mut answers = Guarded::new(&mut random, 72);
+            assert_eq!(panel::run(options, version, &LIST, answers.inside()), 0);
+            let mut expected = [0; 72];
+            let settings = Settings::from_options(options, version);
+            model::run(settings, &LIST, &mut expected);
+            let what = format!("a run with {options:02X} and {version:02X}");
+            answers.assert_begins(&expected, &what);
+            let [refusal, read, error] = match options % 4 {
+                0 => [0, 0x14, 0x40],
+                1 => [0, 0x00, 0x40],
+                _ => [12, 0x00, 0x20],
+            };
+            let last = if options & 4 == 0 { 0xFE } else { version };
+            assert_eq!(told(&expected), [refusal, read, error, last], "{what}");
+        }
     }
 }
 
 const IN_AT_MODE: [Settings; 2] = [AT_MODE, AT_MODE_AND_MOUSE_LOCK];
 
 /// What stands behind the body of a fresh controller with ordinary settings.
-const ORDINARY_REST: [u8; 4] = [panel::ORDINARY, 0, 0x03, 0];
+const ORDINARY_REST: [u8; 5] = [panel::ORDINARY, 0x3F, 0x03, 0, 0];
 
 /// AT mode with the keyboard on, P20 and P25 high and the other latches low, and
 /// a transmit time-out whose byte has been read.
@@ -73,13 +91,13 @@ fn timed_out(random: &mut Random, settings: Settings) -> Both {
     both
 }
 
-fn rest_in_at_mode(settings: Settings) -> [u8; 4] {
+fn rest_in_at_mode(settings: Settings) -> [u8; 5] {
     let lock = if settings.mouse_lock {
         panel::MOUSE_LOCK
     } else {
         panel::ORDINARY
     };
-    [panel::AT_MODE | lock, 0, 0x08, 0x01]
+    [panel::AT_MODE | lock, 0x3F, 0x08, 0x01, settings.version]
 }
 
 /// The status and P2 as they are.
@@ -232,16 +250,16 @@ fn a_refused_load_keeps_at_mode_its_latches_and_its_time_out() {
 #[test]
 fn a_new_start_has_its_own_settings() {
     let mut random = Random::new(96);
-    for before in Settings::ALL {
-        for after in Settings::ALL {
+    for before in ALL {
+        for after in ALL {
             let fresh = state_bytes(&Controller::fresh(after));
             let mut fenced = Fenced::new(&mut random);
-            fenced.state_mut().start(before.options());
-            fenced.state_mut().start(after.options());
+            fenced.state_mut().start(before.options(), before.version);
+            fenced.state_mut().start(after.options(), after.version);
             fenced.assert_bytes(&fresh, "a second start");
             let drawn = state_bytes(&images::state(&mut random, before));
             let mut fenced = Fenced::around(&mut random, drawn);
-            fenced.state_mut().start(after.options());
+            fenced.state_mut().start(after.options(), after.version);
             fenced.assert_bytes(&fresh, "a start over another state");
         }
     }

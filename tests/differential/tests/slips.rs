@@ -1,6 +1,6 @@
 //! Slips: wrong keys at the lock that are a start of its code. The codes have
 //! two or three different keys, so that nearly every wrong key is one. In AT
-//! mode no events shut the lock, so it is shut there by hand.
+//! mode and with the second set no events shut the lock, so it is shut by hand.
 
 use differential::both::Both;
 use differential::compare::{self, Room};
@@ -11,8 +11,10 @@ use differential::random::Random;
 use differential::rounds::rounds;
 use differential::slip_coverage::SlipCoverage;
 use differential::typist::{self, Typist};
-use differential::under_settings::seed;
-use model::{Controller, EVENT_SIZE, IMAGE_SIZE, Settings, save, state_bytes};
+use differential::under_settings::{locks, seed};
+use model::{
+    BODY_SIZE, Controller, EVENT_SIZE, IMAGE_SIZE, STATE_SIZE, Settings, save, state_bytes,
+};
 use panel::State;
 
 const WALKED_EVENTS: usize = 300_000;
@@ -25,9 +27,10 @@ const BYTES: [u8; 2] = [0x1E, 0x30];
 const KEYS: [u8; 2] = [0x1C, 0x32];
 const OTHER: u8 = 0x21;
 
-/// Fresh, or shut by hand: always so in AT mode, every other time else.
+/// Fresh, or shut by hand: always so where no events shut it, every other time
+/// else.
 fn start(random: &mut Random, settings: Settings) -> Controller {
-    if settings.at_mode || random.chance(50) {
+    if !locks(settings) || random.chance(50) {
         few_keys::draw_locked(random, settings)
     } else {
         Controller::fresh(settings)
@@ -300,7 +303,7 @@ fn go_on_together(
 ) -> bool {
     let mut opened = false;
     let ordinary = saved.model.settings == Settings::ORDINARY;
-    let compared = if ordinary { 64 } else { 60 };
+    let compared = if ordinary { STATE_SIZE } else { BODY_SIZE };
     for _ in 0..40 {
         let event = typist.next(&saved.model);
         if !ordinary && !of_keyboard(event) {

@@ -79,7 +79,7 @@ fn pending_from(code: u8, number: u8) -> Pending {
 }
 
 /// The body that describes a state, apart from its settings and from what only
-/// AT mode has.
+/// AT mode or the second set has.
 pub fn encode(state: &Controller) -> [u8; BODY_SIZE] {
     let mut body = [0; BODY_SIZE];
     body[at::OUTPUT] = state.output;
@@ -111,8 +111,8 @@ fn password(body: &[u8; BODY_SIZE]) -> Password {
 }
 
 /// Reads a body that keeps the body rules. It has no place for the settings,
-/// so they are the ordinary ones, nor for what only AT mode has, which is as
-/// when fresh. Of the counted keys it tells the position alone, so they are as
+/// so they are the ordinary ones, nor for what only AT mode or the second set
+/// has, which is as when fresh. Of the counted keys it tells the position alone, so they are as
 /// many of the password's first bytes.
 pub(crate) fn decode(body: &[u8; BODY_SIZE]) -> Controller {
     let has = |bit: u8| body[at::FLAGS] & bit != 0;

@@ -41,7 +41,7 @@ impl Controller {
     fn act(&mut self, command: u8) {
         match command {
             0x20..=0x3F => self.answer_command(self.ram[usize::from(command - 0x20)]),
-            0xA4 => self.answer_command(if self.password.is_empty() { 0xF1 } else { 0xFA }),
+            0xA4 => self.answer_command(self.password_test()),
             0xA5 => self.password = Password::EMPTY,
             0xA6 => self.lock(),
             0xA7 => self.set_mode(mode::MOUSE_OFF),
@@ -50,13 +50,13 @@ impl Controller {
             0xAA => self.self_test(),
             0xAD => self.set_mode(mode::KEYBOARD_OFF),
             0xAE => self.clear_mode(mode::KEYBOARD_OFF),
-            0xC0 => self.answer_command(self.pins),
-            0xC1 => self.overlay = Some(self.pins & 0x0F),
-            0xC2 => self.overlay = Some(self.pins >> 4),
+            0xC0 => self.answer_command(self.input_port()),
+            0xC1 => self.poll(self.input_port() & 0x0F),
+            0xC2 => self.poll(self.input_port() >> 4),
             // The port is read before the put raises an interrupt line.
             0xD0 => self.answer_command(self.output_port()),
             0xE0 => self.answer_command(self.test_inputs()),
-            _ => {}
+            _ => self.act_in_second_set(command),
         }
     }
 

@@ -1,6 +1,7 @@
 //! The controller's state and the few changes that many rules share.
 
 use crate::counted::Counted;
+use crate::input_port::LATCHED;
 use crate::password::Password;
 use crate::settings::Settings;
 
@@ -35,9 +36,6 @@ pub mod mode {
     pub const UNUSED: u8 = 1 << 7;
 }
 
-/// The pin of P1 that the key switch is on.
-const KEY_SWITCH: u8 = 1 << 7;
-
 /// RAM cells with a meaning of their own.
 pub mod cell {
     pub const MODE: usize = 0x00;
@@ -62,11 +60,16 @@ pub struct Controller {
     pub break_flag: bool,
     pub locked: bool,
     pub pins: u8,
+    /// The latches of P10-P15 in bits 0-5. The first set leaves them 1.
+    pub latches_1: u8,
     pub latch_20: bool,
     pub latch_21: bool,
     pub latch_22: bool,
     pub latch_23: bool,
     pub latch_25: bool,
+    /// With the second set D1h may write P22 and P23. The first set never sets
+    /// it.
+    pub output_port_allowed: bool,
     pub pending: Pending,
     pub overlay: Option<u8>,
     pub sending: Option<(Device, u8)>,
@@ -91,11 +94,13 @@ impl Controller {
             break_flag: false,
             locked: false,
             pins: 0xFF,
+            latches_1: LATCHED,
             latch_20: true,
             latch_21: true,
             latch_22: true,
             latch_23: true,
             latch_25: false,
+            output_port_allowed: false,
             pending: Pending::None,
             overlay: None,
             sending: None,
@@ -115,11 +120,6 @@ impl Controller {
 
     pub fn clear_mode(&mut self, bits: u8) {
         self.ram[cell::MODE] &= !bits;
-    }
-
-    /// The key switch is turned to its locking side, where its pin is low.
-    pub fn key_turned(&self) -> bool {
-        self.pins & KEY_SWITCH == 0
     }
 
     /// The key switch is turned and the mode does not override it.

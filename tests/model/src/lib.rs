@@ -1,4 +1,5 @@
-//! A plain model of the 8042 keyboard controller in PS/2 mode and in AT mode.
+//! A plain model of the 8042 keyboard controller in PS/2 mode and in AT mode,
+//! with the first command set and with that of the VT82C42.
 //!
 //! It follows the written rules and nothing else, and serves as the yardstick
 //! for the library under test.
@@ -14,6 +15,7 @@ mod errors;
 mod event;
 mod frame;
 mod image;
+mod input_port;
 mod latches;
 mod lines;
 mod list;
@@ -21,8 +23,10 @@ mod lock;
 mod password;
 mod receive;
 mod refusal;
+mod second_set;
 mod settings;
 mod state_bytes;
+mod state_rules;
 mod stored_run;
 mod translation;
 
@@ -36,5 +40,6 @@ pub use list::{ANSWER_SIZE, EVENT_SIZE, LIST_LIMIT, list_refusal, run};
 pub use password::{PASSWORD_LIMIT, Password};
 pub use settings::Settings;
 pub use state_bytes::{STATE_SIZE, state_bytes};
+pub use state_rules::keeps_state_rules;
 pub use stored_run::run_image;
 pub use translation::{entry, translate};

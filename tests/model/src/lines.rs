@@ -27,15 +27,29 @@ impl Controller {
             | bit(self.mode(mode::SYS), 2)
             | bit(self.command_flag, 3);
         let high = match self.overlay {
-            Some(nibble) => nibble << 4,
+            Some(nibble) => nibble << 4 | self.key_switch_beside_overlay(),
             None => {
-                bit(!self.key_turned(), 4)
+                self.key_switch_bit()
                     | bit(self.status_bit_5(), 5)
                     | bit(self.timeout_error, 6)
                     | bit(self.parity_error, 7)
             }
         };
         low | high
+    }
+
+    fn key_switch_bit(&self) -> u8 {
+        bit(!self.key_turned(), 4)
+    }
+
+    /// An overlay of the second set leaves its lowest place to the key switch,
+    /// as it is now.
+    fn key_switch_beside_overlay(&self) -> u8 {
+        if self.settings.second_set {
+            self.key_switch_bit()
+        } else {
+            0
+        }
     }
 
     /// The transmit time-out in AT mode, a mouse byte that waits in PS/2 mode.
@@ -68,7 +82,8 @@ impl Controller {
             | bit(self.full_from(Device::Mouse) && self.mode(mode::EMI), 5)
     }
 
-    /// The interrupt line does not look at the source, and P27 is high.
+    /// The interrupt line does not look at the source, and P27 is high. P22 and
+    /// P23 show here only, though the second set has their latches in both modes.
     fn port_in_at_mode(&self) -> u8 {
         bit(self.latch_22, 2)
             | bit(self.latch_23, 3)

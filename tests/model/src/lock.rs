@@ -17,6 +17,16 @@ impl Controller {
         code & 0x80 != 0 || cell::IGNORED.iter().any(|&number| self.ram[number] == code)
     }
 
+    /// What A4h answers. The second set has no lock, so there it says that there
+    /// is no password, whatever the state holds.
+    pub(crate) fn password_test(&self) -> u8 {
+        if self.settings.second_set || self.password.is_empty() {
+            0xF1
+        } else {
+            0xFA
+        }
+    }
+
     /// Without a password there is nothing to lock with.
     pub(crate) fn lock(&mut self) {
         if self.password.is_empty() {

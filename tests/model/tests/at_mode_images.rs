@@ -13,7 +13,7 @@ fn changed(settings: Settings) -> Host {
     host.timed_out();
     assert_eq!(
         state_bytes(&host.state)[60..],
-        [settings.options(), 0, 0x08, 0x01]
+        [settings.options(), 0x3F, 0x08, 0x01, 0]
     );
     host
 }
@@ -26,7 +26,7 @@ fn a_load_gives_ps2_mode_with_fresh_latches_and_no_time_out() {
         let loaded = load(&image).expect("an image");
         assert_eq!(loaded.settings, Settings::ORDINARY);
         let bytes = state_bytes(&loaded);
-        assert_eq!(bytes[60..], [0, 0, 0x03, 0]);
+        assert_eq!(bytes[60..], [0, 0x3F, 0x03, 0, 0]);
         assert_eq!(bytes[..60], state_bytes(&host.state)[..60]);
         // P20 is in the body, so its latch is kept.
         assert_eq!(loaded.lines()[4] & 0x03, 0x01);

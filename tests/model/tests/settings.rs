@@ -6,51 +6,78 @@ use host::Host;
 use model::{Controller, Settings, encode, load, run, save, state_bytes};
 
 #[test]
-fn only_two_bits_of_the_options_count() {
+fn only_three_bits_of_the_options_count() {
     for options in 0..=0xFF {
-        let settings = Settings::from_options(options);
+        let settings = Settings::from_options(options, 0x5A);
         assert_eq!(settings.mouse_lock, options % 2 == 1, "{options:02X}");
         assert_eq!(settings.at_mode, options / 2 % 2 == 1, "{options:02X}");
-        assert_eq!(settings.options(), options % 4, "{options:02X}");
+        assert_eq!(settings.second_set, options / 4 % 2 == 1, "{options:02X}");
+        assert_eq!(settings.options(), options % 8, "{options:02X}");
+        assert_eq!(settings.version, 0x5A);
     }
 }
 
 #[test]
 fn every_choice_is_listed_once() {
     let listed = Settings::ALL.map(Settings::options);
-    assert_eq!(listed, [0, 1, 2, 3]);
+    assert_eq!(listed, [0, 1, 2, 3, 4, 5, 6, 7]);
     assert_eq!(Settings::ALL[0], Settings::ORDINARY);
     for settings in Settings::ALL {
-        assert_eq!(Settings::from_options(settings.options()), settings);
+        assert_eq!(Settings::from_options(settings.options(), 0), settings);
+        let other = settings.with_version(0xC2);
+        assert_eq!(Settings::from_options(settings.options(), 0xC2), other);
     }
 }
 
 #[test]
 fn state_bytes_are_the_body_the_options_and_the_rest() {
     for settings in Settings::ALL {
-        let fresh = Controller::fresh(settings);
-        let bytes = state_bytes(&fresh);
-        assert_eq!(bytes.len(), 64);
-        assert_eq!(bytes[..60], encode(&fresh));
-        assert_eq!(bytes[60..], [settings.options(), 0, 0x03, 0]);
+        for version in 0..=0xFF {
+            let fresh = Controller::fresh(settings.with_version(version));
+            let bytes = state_bytes(&fresh);
+            assert_eq!(bytes.len(), 65);
+            assert_eq!(bytes[..60], encode(&fresh));
+            let rest = [settings.options(), 0x3F, 0x03, 0, version];
+            assert_eq!(bytes[60..], rest);
+        }
     }
 }
 
-/// What only AT mode has stands behind the options and nowhere else.
+/// What no body has a place for stands behind it, each part in bits of its own.
 #[test]
-fn each_latch_and_the_time_out_has_its_bit() {
-    let fresh = Controller::fresh(Settings::AT_MODE);
+fn each_latch_the_leave_and_the_time_out_has_its_bit() {
+    let fresh = Controller::fresh(Settings::SECOND_SET_IN_AT_MODE.with_version(0x99));
     let rest = |change: fn(&mut Controller)| {
         let mut state = fresh.clone();
         change(&mut state);
         let bytes = state_bytes(&state);
-        assert_eq!(bytes[..62], state_bytes(&fresh)[..62]);
-        [bytes[62], bytes[63]]
+        assert_eq!(bytes[..60], state_bytes(&fresh)[..60]);
+        bytes[60..].to_vec()
     };
-    assert_eq!(rest(|state| state.latch_22 = false), [0x02, 0]);
-    assert_eq!(rest(|state| state.latch_23 = false), [0x01, 0]);
-    assert_eq!(rest(|state| state.latch_25 = true), [0x0B, 0]);
-    assert_eq!(rest(|state| state.transmit_timeout = true), [0x03, 0x01]);
+    assert_eq!(
+        rest(|state| state.output_port_allowed = true),
+        [0x0E, 0x3F, 0x03, 0, 0x99]
+    );
+    assert_eq!(
+        rest(|state| state.latches_1 = 0x29),
+        [6, 0x29, 0x03, 0, 0x99]
+    );
+    assert_eq!(
+        rest(|state| state.latch_22 = false),
+        [6, 0x3F, 0x02, 0, 0x99]
+    );
+    assert_eq!(
+        rest(|state| state.latch_23 = false),
+        [6, 0x3F, 0x01, 0, 0x99]
+    );
+    assert_eq!(
+        rest(|state| state.latch_25 = true),
+        [6, 0x3F, 0x0B, 0, 0x99]
+    );
+    assert_eq!(
+        rest(|state| state.transmit_timeout = true),
+        [6, 0x3F, 0x03, 0x01, 0x99]
+    );
 }
 
 #[test]
@@ -62,12 +89,17 @@ fn fresh_differs_in_the_settings_alone() {
     }
     let lines = |settings| Host::started(settings).state.lines();
     assert_eq!(lines(Settings::MOUSE_LOCK), lines(Settings::ORDINARY));
+    assert_eq!(lines(Settings::SECOND_SET), lines(Settings::ORDINARY));
+    assert_eq!(
+        lines(Settings::SECOND_SET_IN_AT_MODE),
+        lines(Settings::AT_MODE)
+    );
 }
 
 /// Each event in a state where most of them act.
 #[test]
 fn no_event_changes_the_settings() {
-    for settings in Settings::ALL {
+    for settings in Settings::ALL.map(|choice| choice.with_version(0x42)) {
         for kind in 0..=9 {
             for value in 0..=0x800 {
                 let mut host = Host::ready_under(settings);
@@ -80,7 +112,7 @@ fn no_event_changes_the_settings() {
 
 #[test]
 fn an_image_has_no_place_for_the_settings() {
-    let mut host = Host::ready_under(Settings::MOUSE_LOCK);
+    let mut host = Host::ready_under(Settings::MOUSE_LOCK.with_version(0x42));
     host.pins(0x7F);
     let saved = save(&host.state);
     let loaded = load(&saved).expect("an image");

@@ -1,7 +1,7 @@
 //! The C functions of the library, as `include/calugnid.h` has them.
 
 unsafe extern "C" {
-    pub fn calugnid_start(state: *mut u8, options: u8);
+    pub fn calugnid_start(state: *mut u8, options: u8, version: u8);
     pub fn calugnid_event(state: *mut u8, kind: u8, value: u16, answer: *mut u8);
     pub fn calugnid_run_state(
         state: *mut u8,
@@ -25,6 +25,7 @@ unsafe extern "C" {
 
     pub fn calugnid_run(
         options: u8,
+        version: u8,
         list: *const u8,
         list_len: usize,
         answers: *mut u8,

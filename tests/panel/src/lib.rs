@@ -5,10 +5,12 @@ mod state;
 
 pub use state::{ANSWER_SIZE, Answer, STATE_SIZE, State};
 
-/// Options of a start: none of them, the mouse lock, and AT mode.
+/// Options of a start: none of them, the mouse lock, AT mode, and the second
+/// command set.
 pub const ORDINARY: u8 = 0;
 pub const MOUSE_LOCK: u8 = 0x01;
 pub const AT_MODE: u8 = 0x02;
+pub const SECOND_SET: u8 = 0x04;
 
 /// What `judge` answers for a frame that is not sound.
 pub const WRONG_PARITY: u16 = 256;
@@ -16,11 +18,12 @@ pub const BROKEN: u16 = 257;
 pub const NOISE: u16 = 258;
 
 /// Runs a list from fresh and hands back the refusal number.
-pub fn run(options: u8, list: &[u8], answers: &mut [u8]) -> u8 {
+pub fn run(options: u8, version: u8, list: &[u8], answers: &mut [u8]) -> u8 {
     // SAFETY: each pointer comes with the length of its own slice.
     unsafe {
         ffi::calugnid_run(
             options,
+            version,
             list.as_ptr(),
             list.len(),
             answers.as_mut_ptr(),

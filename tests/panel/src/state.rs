@@ -3,13 +3,13 @@
 use crate::ffi;
 use std::cell::UnsafeCell;
 
-pub const STATE_SIZE: usize = 64;
+pub const STATE_SIZE: usize = 65;
 pub const ANSWER_SIZE: usize = 9;
 
 pub type Answer = [u8; ANSWER_SIZE];
 
 /// The bytes that the library changes in place: an image's body, the options,
-/// and what only AT mode changes.
+/// what only AT mode or the second set changes, and the version byte.
 ///
 /// They stand in a cell, so that a call which writes where it is only to read
 /// is seen by whoever looks at the bytes afterwards.
@@ -18,9 +18,9 @@ pub struct State(UnsafeCell<[u8; STATE_SIZE]>);
 
 impl State {
     /// A fresh controller.
-    pub fn fresh(options: u8) -> State {
+    pub fn fresh(options: u8, version: u8) -> State {
         let mut state = State::from_bytes([0; STATE_SIZE]);
-        state.start(options);
+        state.start(options, version);
         state
     }
 
@@ -39,9 +39,9 @@ impl State {
     }
 
     /// Makes a fresh controller of whatever was there.
-    pub fn start(&mut self, options: u8) {
+    pub fn start(&mut self, options: u8, version: u8) {
         // SAFETY: the pointer is to a whole state.
-        unsafe { ffi::calugnid_start(self.pointer(), options) }
+        unsafe { ffi::calugnid_start(self.pointer(), options, version) }
     }
 
     /// Carries out one event and writes its answer.

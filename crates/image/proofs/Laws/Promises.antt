@@ -10,7 +10,7 @@ use borrow.Author.Tests.{not-true, not-false}
 use Rattle.machine.specs.Settings.{Settings, ordinary}
 use Rattle.machine.specs.State.{fresh}
 use Rattle.machine.specs.View.{stateLength, beyond, stateOf, view, IsState}
-use Rattle.machine.proofs.Laws.Kept.{fresh-kept}
+use Rattle.machine.proofs.Laws.Kept.{ordinary-kept}
 use Rattle.machine.proofs.Laws.Body.{drop-body, body-front}
 use Rattle.machine.proofs.Laws.Lists.{Below}
 use Rattle.image.specs.Layout.{bodyLength, imageLength, trailer, sealed, image}
@@ -99,7 +99,7 @@ module _ {s bytes : List ℕ} where
         let z = loadRefusal-kept bytes (some-ends bytes here some) judged in
         let behind : drop (length b) t ≡ beyond (fresh ordinary .plain) =
         ap₂ drop (some-long bytes here some) (start ∙ ap (λ (x : Settings). stateOf (fresh x)) plain)
-        ∙ drop-body (fresh ordinary) (fresh-kept ordinary .code) (fresh-kept ordinary .ram) in
+        ∙ drop-body (fresh ordinary) (ordinary-kept .code) (ordinary-kept .ram) in
         let same : s′ ≡ stateFrom (found bytes) = copied ∙ paste-first t b ∙ ap₂ (λ (x y : List ℕ). x ++ y) here behind in
         let whole : IsState s′ = subst IsState (sym same) (found-isState bytes z) in
         let restored : Restored (view s′) bytes =

@@ -12,7 +12,7 @@ use borrow.Author.Tests.{ne-eqb, eqb-true, eqb-false, not-true}
 use Rattle.translation.specs.Bits.{has}
 use Rattle.machine.specs.Settings.{Settings, ordinary}
 use Rattle.machine.specs.State.{Public, Machine, fresh}
-use Rattle.machine.specs.Lines.{atMode, nibble}
+use Rattle.machine.specs.Lines.{atMode, secondSet, nibble}
 use Rattle.machine.specs.Kept.{Kept}
 use Rattle.machine.specs.View.{stateLength, body, beyond, stateOf, at, view, IsState}
 use Rattle.machine.proofs.Laws.Lists.{Below, below-take, below-drop, below-append, length-part}
@@ -20,7 +20,8 @@ use Rattle.machine.proofs.Laws.Bits.{flags-full, flags-mouse, flags-locked, fla
 use Rattle.machine.proofs.Laws.Code.{code-long, code-byte}
 use Rattle.machine.proofs.Laws.View.{ram-of}
 use Rattle.machine.proofs.Laws.Settings.{fresh-settings}
-use Rattle.machine.proofs.Laws.Kept.{fresh-kept}
+use Rattle.machine.proofs.Laws.Cond.{not-both}
+use Rattle.machine.proofs.Laws.Kept.{ordinary-kept}
 use Rattle.machine.proofs.Laws.Body.{beyond-same, beyond-below, tidied, length-extended, take-extended, byte-extended, tidied-extended}
 use Rattle.machine.proofs.Laws.Body.{length-body, code-part, ram-part, view-state, Tidy, tidy-state, body-front}
 use Rattle.image.specs.Layout.{bodyLength, imageLength, sealed, image}
@@ -61,20 +62,27 @@ module _ (s : List ℕ) (long : length s ≡ stateLength) (r : Rules s) (beyond 
   count-shown : length (take (at s 10) code) ≡ at s 10
   count-shown = length-take (at s 10) code ∙ omega (arith, code-long s long, r .count)
 
-  -- what AT mode adds is fresh in it
-  view-kept : Below 256 s → at s 62 ≡ 3 → at s 63 ≡ 0 → Kept (view s)
-  view-kept bytes latches ttim =
+  -- what AT mode and the second command set add is fresh in it
+  view-kept : Below 256 s → at s 60 ≡ 0 → at s 61 ≡ 0x3F → at s 62 ≡ 3 → at s 63 ≡ 0 → Kept (view s)
+  view-kept bytes options lines latches ttim =
+      let first : has (at s 60) 2 ≡ false = ap (λ (x : ℕ). has x 2) options in
       record {
         output = bytes 0;
         source = r .source;
         pins = bytes 2;
-        latches = λ _. (ap (λ (x : ℕ). has x 0) latches, ap (λ (x : ℕ). has x 1) latches, ap (λ (x : ℕ). has x 3) latches);
+        latches = λ _ _. (ap (λ (x : ℕ). has x 0) latches, ap (λ (x : ℕ). has x 1) latches);
+        p25 = λ _. ap (λ (x : ℕ). has x 3) latches;
+        firstSet = λ _. (lines, ap (λ (x : ℕ). has x 3) options);
+        inputLatches = omega (arith, lines);
         ttim = λ _. ap (λ (x : ℕ). has x 0) ttim;
         pending = r .pending;
         cell = r .cell;
         noCell = r .noCell;
         nibble = r .nibble;
         noNibble = λ e. r .noNibble (omega (arith, r .overlay, eqb-false (at s 6) 1 e));
+        evenNibble = λ second. not-both second first;
+        noLoad = λ second _. not-both second first;
+        noCode = λ second. not-both second first;
         to = r .to;
         sent = bytes 9;
         noSent = r .noSent;
@@ -85,6 +93,7 @@ module _ (s : List ℕ) (long : length s ≡ stateLength) (r : Rules s) (beyond 
         ram = ap suc (length-part 29 31 s (omega arith));
         cells = subst (Below 256) (sym (ram-of s long)) (below-take 256 32 (drop 28 s) (omega arith) (below-drop 256 28 s bytes));
         modeByte = r .modeByte;
+        version = bytes 64;
       }
     where
       below : Below 256 (take (at s 10) code)
@@ -145,7 +154,8 @@ module _ (m : Machine) (k : Kept m) where
   resumed-body plain =
       let started = fresh-settings ordinary in
       ap (λ (r : List ℕ). view (body m ++ r))
-      (beyond-same (fresh ordinary) m (fresh-kept ordinary) k (started ∙ sym plain) (ap (λ (x : Settings). x .atMode) started))
+      (beyond-same (fresh ordinary) m ordinary-kept k (started ∙ sym plain) (ap (λ (x : Settings). x .atMode) started)
+      (ap (λ (x : Settings). x .secondSet) started))
       ∙ view-state m (k .code) (k .ram)
 
   -- ---- its image behind other bytes
@@ -191,6 +201,14 @@ module _ (bytes : List ℕ) (z : loadRefusal bytes ≡ 0) where
   made-beyond : (k : ℕ) → tidied k (at made (60 + k)) ≡ at made (60 + k)
   made-beyond = tidied-extended (found bytes) found-long behind
 
+  made-options : at made 60 ≡ 0
+  unfolding fresh nibble
+  made-options = byte-extended (found bytes) found-long behind 0
+
+  made-lines : at made 61 ≡ 0x3F
+  unfolding fresh nibble
+  made-lines = byte-extended (found bytes) found-long behind 1
+
   made-latches : at made 62 ≡ 3
   unfolding fresh nibble
   made-latches = byte-extended (found bytes) found-long behind 2
@@ -214,7 +232,7 @@ module _ (bytes : List ℕ) (z : loadRefusal bytes ≡ 0) where
       let inside : Below 256 (found bytes) =
       subst (Below 256) (sym (found-body bytes (accepted bytes z .0)))
       (below-take 256 bodyLength (lastBytes imageLength bytes) (omega arith) (below-drop 256 (length bytes - 68) bytes bound)) in
-      below-append 256 (found bytes) (beyond behind) inside (beyond-below behind)
+      below-append 256 (found bytes) (beyond behind) inside (beyond-below (fresh ordinary) ordinary-kept)
 
   pub accepted-restored : Below 256 bytes → Restored (resumed bytes) bytes
   unfolding image
@@ -224,16 +242,17 @@ module _ (bytes : List ℕ) (z : loadRefusal bytes ≡ 0) where
         accepted = z;
         body = found-body-of;
         machine = λ before. loaded-accepted before bytes z;
-        kept = view-kept made made-long made-rules made-beyond (made-below bound) made-latches made-ttim;
+        kept = view-kept made made-long made-rules made-beyond (made-below bound) made-options made-lines made-latches made-ttim;
         again =
             ap (sealed 1) (sym found-body-of ∙ found-body bytes ended)
             ∙ sym (lastBytes-sealed 1 bodyLength bytes (ends-sealed 1 bodyLength bytes ended) bound);
       }
 
--- ---- one machine for a body and the settings, in PS/2 mode
-pub body-injective : (m n : Machine) → Kept m → Kept n → m .plain .settings ≡ n .plain .settings → atMode (m .plain) ≡ false → body m ≡ body n → m ≡ n
+-- ---- one machine for a body and the settings, in PS/2 mode with the first command set
+pub body-injective : (m n : Machine) → Kept m → Kept n → m .plain .settings ≡ n .plain .settings → atMode (m .plain) ≡ false → secondSet (m .plain) ≡ false →
+    body m ≡ body n → m ≡ n
 unfolding stateOf
-body-injective m n k l same ps2 e =
+body-injective m n k l same ps2 one e =
     sym (view-state m (k .code) (k .ram))
-    ∙ ap₂ (λ (b r : List ℕ). view (b ++ r)) e (beyond-same m n k l same ps2)
+    ∙ ap₂ (λ (b r : List ℕ). view (b ++ r)) e (beyond-same m n k l same ps2 one)
     ∙ view-state n (l .code) (l .ram)

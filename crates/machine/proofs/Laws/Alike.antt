@@ -3,7 +3,7 @@
 -- Assumes nothing.
 use Prim.Native.Nat.{ℕ}
 use mathlib.Core.Path.{_≡_, refl, ap, sym, _∙_, subst}
-use mathlib.Core.Bool.{Bool, true, false, cond, _||_, or-true, false≢true}
+use mathlib.Core.Bool.{Bool, true, false, cond, not, _&&_, _||_, or-true, false≢true}
 use lib.Dec.{eqb, ltb}
 use lib.ListN.{length, getD, length-append}
 use borrow.Author.Tests.{eqb-true}
@@ -12,7 +12,7 @@ use Rattle.translation.specs.ScanCodes.{Translation, Yielded, nothing, byte, co
 use Rattle.translation.proofs.ScanCodes.{translate-other}
 use Rattle.translation.proofs.Tests.{split}
 use Rattle.machine.specs.State.{Public, Machine, withLocked, lift}
-use Rattle.machine.specs.Lines.{put, putCell, inhibited, translates}
+use Rattle.machine.specs.Lines.{secondSet, put, putCell, inhibited, translates}
 use Rattle.machine.specs.DataPort.{settled, dataWritten, plainData, dropped, appended, codeFull, loadByte, writeData}
 use Rattle.machine.specs.Commands.{understood, commandWritten, loadCut, plainCommand, hasCode, codeAsked, closed, lockedUp, acts, writeCommand}
 use Rattle.machine.specs.Frames.{errorsSet, positioned, keyError, breaking, damagedKey, ignored, unlocked, counted, try}
@@ -76,7 +76,8 @@ loadCut-alike h = test-alike (λ p. eqb (p .host .pending) 3) h (dropped-alike h
 
 codeAsked-alike : {m n : Machine} → Alike m n → Alike (codeAsked m) (codeAsked n)
 unfolding codeAsked
-codeAsked-alike h = size-alike hasCode h (rw (h .size)) (lift-alike (put 0xFA) h) (lift-alike (put 0xF1) h)
+codeAsked-alike h =
+    size-alike (λ m. hasCode m && not (secondSet (m .plain))) h (rw (h .size, h .plain)) (lift-alike (put 0xFA) h) (lift-alike (put 0xF1) h)
 
 closed-alike : {m n : Machine} → Alike m n → Alike (closed m) (closed n)
 closed-alike h = record { plain = ap (λ p. withLocked p true) (h .plain); size = h .size }

@@ -1,34 +1,32 @@
 -- In AT mode nothing that its start left out comes up: no lock code, no byte from the mouse or for it, no overlay.
 -- Assumes nothing.
-use Prim.Native.Nat.{ℕ}
+use Prim.Native.Nat.{ℕ, _%_}
 use mathlib.Core.Path.{_≡_, refl, ap, _∙_}
 use mathlib.Core.Bool.{Bool, true, false, _||_}
 use mathlib.Core.List.{List, [], _∷_}
 use native.Mathlib.Omega.{arith}
-use lib.Dec.{eqb}
+use lib.Dec.{eqb, ltb}
 use borrow.Author.Tests.{eqb-true}
 use Rattle.translation.specs.Frames.{Check, sound, parity, broken, noise, check}
 use Rattle.translation.specs.ScanCodes.{Yielded, nothing, byte}
-use Rattle.translation.proofs.Tests.{split}
 use Rattle.machine.specs.Settings.{Settings}
 use Rattle.machine.specs.State.{Output, Errors, Host, Ports, Sending, Public, Machine, fresh, lift}
 use Rattle.machine.specs.State.{withOutput, withErrors, withHost, withPorts, withSending, withBreaks, withRam}
-use Rattle.machine.specs.Lines.{atMode, inhibited, put}
+use Rattle.machine.specs.Lines.{within, atMode, inhibited, put}
 use Rattle.machine.specs.DataPort.{dataWritten, dropped, plainData, writeData}
-use Rattle.machine.specs.Commands.{within, ps2Only, understood, pendingOf, commandWritten, loadCut, plainCommand, acts, writeCommand}
+use Rattle.machine.specs.SecondSet.{lineWritten, singleCommand, secondCommand}
+use Rattle.machine.specs.Commands.{ps2Only, understood, pendingOf, commandWritten, loadCut, plainCommand, acts, writeCommand}
 use Rattle.machine.specs.Frames.{keyError, keyed, keyedByte, soundKey, keyboardFrame, taken, timedOut, pinned}
 use Rattle.machine.specs.Events.{Event, value, refusal, emptied, accept, step}
 use Rattle.machine.specs.Run.{after}
 use Rattle.machine.specs.Modes.{AtCode, AtPublic, AtMachine}
 use Rattle.machine.proofs.Laws.Cond.{cond-holds, cond-both, not-both, and-false}
+use Rattle.machine.proofs.Laws.Commands.{understood-known}
 use Rattle.machine.proofs.Laws.Events.{accepted}
 use Rattle.machine.proofs.Laws.Settings.{fresh-settings, step-settings}
 
--- ---- understood
+-- ---- ps2Only
 -- what is understood in AT mode is no command of PS/2 mode alone
-understood-known : (x : Settings) (c : ℕ) → x .atMode ≡ true → ps2Only (understood x c) ≡ false
-understood-known x c at′ = split (ps2Only c) (λ only. simp (at′, only)) (λ other. simp (at′, other))
-
 never : (c : ℕ) → ps2Only c ≡ false → (k : ℕ) → ps2Only k ≡ true → eqb c k ≡ true → ⊥
 never c known k only e = not-both (ap ps2Only (eqb-true c k e) ∙ only) known
 
@@ -84,6 +82,20 @@ module _ {p : Public} (a : AtPublic p) where
       cond-holds AtPublic (eqb code 7) (λ e. absurd (a .pending .3 (eqb-true code 7 e))) λ _.
       withSending-at (withRam-at a _) _ (omega arith)))))
 
+  secondCommand-at : (c : ℕ) → AtPublic (secondCommand c p)
+  unfolding secondCommand lineWritten singleCommand
+  secondCommand-at c =
+      let k = c % 8 in
+      cond-both AtPublic (within 0x90 0x9F c) (withPorts-at a _)
+      (cond-both AtPublic (within 0xB0 0xBF c)
+      (cond-both AtPublic (ltb k 4) (withPorts-at a _)
+      (cond-both AtPublic (eqb k 4) (withPorts-at a _) (cond-both AtPublic (eqb k 5) (withPorts-at a _) (withPorts-at a _))))
+      (cond-both AtPublic (within 0xE1 0xEF c) (withPorts-at a _)
+      (cond-both AtPublic (eqb c 0xA1) (put-at a _)
+      (cond-both AtPublic (eqb c 0xAF) (put-at a _)
+      (cond-both AtPublic (eqb c 0xC8) (withPorts-at a _)
+      (cond-both AtPublic (eqb c 0xC9) (withPorts-at a _) (cond-both AtPublic (eqb c 0xCA) (put-at a _) a)))))))
+
   plainCommand-at : (c : ℕ) → ps2Only c ≡ false → AtPublic (plainCommand c p)
   unfolding plainCommand
   plainCommand-at c known =
@@ -99,7 +111,7 @@ module _ {p : Public} (a : AtPublic p) where
       (cond-holds AtPublic (eqb c 0xC1) (λ e. absurd (never c known 0xC1 refl e)) λ _.
       cond-holds AtPublic (eqb c 0xC2) (λ e. absurd (never c known 0xC2 refl e)) λ _.
       cond-both AtPublic (eqb c 0xD0) (put-at a _)
-      (cond-both AtPublic (eqb c 0xE0) (put-at a _) a))))))))))
+      (cond-both AtPublic (eqb c 0xE0) (put-at a _) (secondCommand-at c)))))))))))
 
   keyError-at : AtPublic (keyError p)
   unfolding keyError
@@ -150,7 +162,7 @@ writeCommand-at : (m : Machine) → AtMachine m → atMode (m .plain) ≡ true �
 unfolding writeCommand
 writeCommand-at m a at′ c =
     let known = understood (m .plain .settings) c in
-    let one : ps2Only known ≡ false = understood-known (m .plain .settings) c at′ in
+    let one : ps2Only known ≡ false = understood-known (m .plain .settings) c .mode at′ in
     let cut : AtMachine (loadCut m) = loadCut-at m a in
     let written : AtMachine (lift (commandWritten known) (loadCut m)) =
     at-lift (commandWritten known) (loadCut m) cut (withHost-at (cut .plain) _ refl (pendingOf-at known one)) in

@@ -157,43 +157,15 @@ module _ (a b c d : Bool) where
   pub nibble-1 : has (nibble a b c d) 1 ≡ b
   nibble-1 = has-line (nibble a b c d) 1 b (omega (arith, nibble-weights a b c d, ones))
 
+  pub nibble-2 : has (nibble a b c d) 2 ≡ c
+  nibble-2 = has-line (nibble a b c d) 2 c (omega (arith, nibble-weights a b c d, ones))
+
   pub nibble-3 : has (nibble a b c d) 3 ≡ d
   nibble-3 = has-line (nibble a b c d) 3 d (omega (arith, nibble-weights a b c d, ones))
 
--- ---- highLatches: bits 2, 3 and 5 of v, as D1h stores them
-module _ (a b : ℕ) (two : a < 4) (one : b < 2) where
-  spread-0 : (a + b * 8) / 1 % 2 ≡ a % 2
-  spread-0 = omega arith
+  -- the lines of a nibble make the nibble
+  pub nibble-again : let n = nibble a b c d in nibble (has n 0) (has n 1) (has n 2) (has n 3) ≡ n
+  nibble-again = λ i. nibble (nibble-0 i) (nibble-1 i) (nibble-2 i) (nibble-3 i)
 
-  spread-1 : (a + b * 8) / 2 % 2 ≡ a / 2
-  spread-1 = omega arith
-
-  spread-3 : (a + b * 8) / 8 % 2 ≡ b
-  spread-3 = omega arith
-
-  spread-byte : let x = a + b * 8 in nibble (has x 0) (has x 1) false (has x 3) ≡ x
-  spread-byte =
-      let x = a + b * 8 in
-      omega (
-        arith,
-        nibble-weights (has x 0) (has x 1) false (has x 3),
-        weight-has x 0 ∙ spread-0,
-        weight-has x 1 ∙ spread-1,
-        weight-has x 3 ∙ spread-3,
-      )
-
-module _ (v : ℕ) where
-  abbrev pub spread : ℕ
-  spread = v / 4 % 4 + v / 32 % 2 * 8
-
-  pub highLatches-byte : nibble (has spread 0) (has spread 1) false (has spread 3) ≡ spread
-  highLatches-byte = spread-byte (v / 4 % 4) (v / 32 % 2) (omega arith) (omega arith)
-
-  pub highLatches-0 : bit spread 0 ≡ bit v 2
-  highLatches-0 = spread-0 (v / 4 % 4) (v / 32 % 2) (omega arith) (omega arith) ∙ omega arith
-
-  pub highLatches-1 : bit spread 1 ≡ bit v 3
-  highLatches-1 = spread-1 (v / 4 % 4) (v / 32 % 2) (omega arith) (omega arith) ∙ omega arith
-
-  pub highLatches-3 : bit spread 3 ≡ bit v 5
-  highLatches-3 = spread-3 (v / 4 % 4) (v / 32 % 2) (omega arith) (omega arith)
+pub highLatches-again : (a b d : Bool) → let n = nibble a b false d in nibble (has n 0) (has n 1) false (has n 3) ≡ n
+highLatches-again a b d = λ i. nibble (nibble-0 a b false d i) (nibble-1 a b false d i) false (nibble-3 a b false d i)

@@ -9,13 +9,14 @@ use lib.Seq.{take-at, drop-at, take-all, take-append-seam, drop-append-seam, tak
 use Rattle.translation.specs.Bits.{has}
 use Rattle.machine.specs.Settings.{Settings, settingsOf}
 use Rattle.machine.specs.State.{Public, Machine, fresh}
-use Rattle.machine.specs.Lines.{atMode, nibble}
+use Rattle.machine.specs.Lines.{atMode, secondSet, nibble}
 use Rattle.machine.specs.Kept.{Kept}
 use Rattle.machine.specs.View.{stateLength, head, padded, body, optionsOf, highLatches, beyond, stateOf, at, view, IsState}
 use Rattle.machine.proofs.Laws.Bounds.{getD-zeros, nibble-below}
 use Rattle.machine.proofs.Laws.Lists.{listed, take-listed, length-part, Below}
 use Rattle.machine.proofs.Laws.Bits.{flags-full, flags-mouse, flags-command, flags-terr, flags-perr, flags-breaks, flags-locked}
-use Rattle.machine.proofs.Laws.Bits.{flags-below, flags-byte, nibble-0, nibble-1, nibble-3, latches-below, latches-byte}
+use Rattle.machine.proofs.Laws.Bits.{flags-below, flags-byte, nibble-0, nibble-1, nibble-2, nibble-3, latches-below, latches-byte}
+use Rattle.machine.proofs.Laws.Bits.{nibble-again, highLatches-again}
 use Rattle.machine.proofs.Laws.Bits.{overlay-below, overlay-byte, eqb-nibble}
 use Rattle.machine.proofs.Laws.Code.{code-long}
 
@@ -28,46 +29,59 @@ zeros [] each = refl
 zeros (x ∷ l) each = ap₂ _∷_ (each zero (omega arith)) (zeros l (λ k h. each (suc k) (omega arith)))
 
 -- ---- optionsOf
-settings-options : (x : Settings) → settingsOf (optionsOf x) ≡ x
-settings-options x = λ i. record { mouseLock = nibble-0 (x .mouseLock) (x .atMode) false false i; atMode = nibble-1 (x .mouseLock) (x .atMode) false false i }
+pub settings-options : (x : Settings) (b : Bool) → settingsOf (optionsOf x b) (x .version) ≡ x
+settings-options x b =
+    let a = x .mouseLock in
+    let m = x .atMode in
+    let c = x .secondSet in
+    λ i. record { mouseLock = nibble-0 a m c b i; atMode = nibble-1 a m c b i; secondSet = nibble-2 a m c b i; version = x .version }
 
 -- ---- beyond
--- in PS/2 mode it goes by the settings alone
-beyond-ps2 : (m : Machine) → Kept m → atMode (m .plain) ≡ false → beyond (m .plain) ≡ optionsOf (m .plain .settings) ∷ 0 ∷ 3 ∷ 0 ∷ []
+-- in PS/2 mode with the first command set it goes by the settings alone
+abbrev plainBeyond : Settings → List ℕ
+plainBeyond x = optionsOf x false ∷ 0x3F ∷ 3 ∷ 0 ∷ x .version ∷ []
+
+beyond-plain : (m : Machine) → Kept m → atMode (m .plain) ≡ false → secondSet (m .plain) ≡ false → beyond (m .plain) ≡ plainBeyond (m .plain .settings)
 unfolding nibble
-beyond-ps2 m k ps2 =
-    let (p22, p23, p25) = k .latches ps2 in
+beyond-plain m k ps2 one =
+    let (p22, p23) = k .latches one ps2 in
+    let (lines, forbidden) = k .firstSet one in
     λ i.
-    optionsOf (m .plain .settings) ∷ 0 ∷ nibble (p22 i) (p23 i) false (p25 i) ∷ nibble (k .ttim ps2 i) false false false ∷ []
+    optionsOf (m .plain .settings) (forbidden i)
+    ∷ lines i
+    ∷ nibble (p22 i) (p23 i) false (k .p25 ps2 i)
+    ∷ nibble (k .ttim ps2 i) false false false
+    ∷ m .plain .settings .version
+    ∷ []
 
-pub beyond-same : (m n : Machine) → Kept m → Kept n → m .plain .settings ≡ n .plain .settings → atMode (m .plain) ≡ false →
+pub beyond-same : (m n : Machine) → Kept m → Kept n → m .plain .settings ≡ n .plain .settings → atMode (m .plain) ≡ false → secondSet (m .plain) ≡ false →
     beyond (m .plain) ≡ beyond (n .plain)
-beyond-same m n k l same ps2 =
-    beyond-ps2 m k ps2 ∙ ap (λ (x : Settings). optionsOf x ∷ 0 ∷ 3 ∷ 0 ∷ []) same
-    ∙ sym (beyond-ps2 n l (sym (ap (λ (x : Settings). x .atMode) same) ∙ ps2))
+beyond-same m n k l same ps2 one =
+    beyond-plain m k ps2 one ∙ ap plainBeyond same
+    ∙ sym (beyond-plain n l (sym (ap (λ (x : Settings). x .atMode) same) ∙ ps2) (sym (ap (λ (x : Settings). x .secondSet) same) ∙ one))
 
-pub beyond-below : (p : Public) → Below 256 (beyond p)
-beyond-below p zero = omega (arith, nibble-below (p .settings .mouseLock) (p .settings .atMode) false false)
-beyond-below p (suc zero) = omega arith
-beyond-below p (suc (suc zero)) = omega (arith, nibble-below (p .ports .p22) (p .ports .p23) false (p .ports .p25))
-beyond-below p (suc (suc (suc zero))) = omega (arith, nibble-below (p .errors .ttim) false false false)
-beyond-below p (suc (suc (suc (suc k)))) = omega arith
+pub beyond-below : (m : Machine) → Kept m → Below 256 (beyond (m .plain))
+beyond-below m k zero =
+    let x = m .plain .settings in
+    omega (arith, nibble-below (x .mouseLock) (x .atMode) (x .secondSet) (m .plain .ports .highAllowed))
+beyond-below m k (suc zero) = omega (arith, k .inputLatches)
+beyond-below m k (suc (suc zero)) = let q = m .plain .ports in omega (arith, nibble-below (q .p22) (q .p23) false (q .p25))
+beyond-below m k (suc (suc (suc zero))) = omega (arith, nibble-below (m .plain .errors .ttim) false false false)
+beyond-below m k (suc (suc (suc (suc zero)))) = k .version
+beyond-below m k (suc (suc (suc (suc (suc j))))) = omega arith
 
 -- byte 60 + k with what stands for nothing in it 0
 abbrev pub tidied : ℕ → ℕ → ℕ
-tidied zero x = optionsOf (settingsOf x)
-tidied (suc zero) x = 0
+tidied zero x = optionsOf (settingsOf x 0) (has x 3)
+tidied (suc zero) x = x
 tidied (suc (suc zero)) x = nibble (has x 0) (has x 1) false (has x 3)
 tidied (suc (suc (suc zero))) x = nibble (has x 0) false false false
 tidied (suc (suc (suc (suc k)))) x = x
 
 tidied-beyond : (p : Public) (k : ℕ) → tidied k (getD (beyond p) k 0) ≡ getD (beyond p) k 0
-tidied-beyond p zero = ap optionsOf (settings-options (p .settings))
+tidied-beyond p zero = let x = p .settings in nibble-again (x .mouseLock) (x .atMode) (x .secondSet) (p .ports .highAllowed)
 tidied-beyond p (suc zero) = refl
-tidied-beyond p (suc (suc zero)) =
-    let q = p .ports in
-    λ i.
-    nibble (nibble-0 (q .p22) (q .p23) false (q .p25) i) (nibble-1 (q .p22) (q .p23) false (q .p25) i) false (nibble-3 (q .p22) (q .p23) false (q .p25) i)
+tidied-beyond p (suc (suc zero)) = highLatches-again (p .ports .p22) (p .ports .p23) (p .ports .p25)
 tidied-beyond p (suc (suc (suc zero))) = ap (λ (b : Bool). nibble b false false false) (nibble-0 (p .errors .ttim) false false false)
 tidied-beyond p (suc (suc (suc (suc k)))) = refl
 
@@ -138,8 +152,11 @@ module _ (m : Machine) (short : length (m .secret .code) ≤ 16) where
         let code : take (length (m .secret .code)) (take 16 (drop 12 (stateOf m))) ≡ m .secret .code =
         ap (take (length (m .secret .code))) code-part ∙ take-append-seam (m .secret .code) _ in
         let behind : (k : ℕ) → at (stateOf m) (60 + k) ≡ getD (beyond p) k 0 = byte-extended (body m) length-body p in
-        let settings : settingsOf (at (stateOf m) 60) ≡ p .settings = ap settingsOf (behind 0) ∙ settings-options (p .settings) in
         let q = p .ports in
+        let x = p .settings in
+        let settings : settingsOf (at (stateOf m) 60) (at (stateOf m) 64) ≡ x = ap₂ settingsOf (behind 0) (behind 4) ∙ settings-options x (q .highAllowed) in
+        let allowed : has (at (stateOf m) 60) 3 ≡ q .highAllowed =
+        ap (λ (n : ℕ). has n 3) (behind 0) ∙ nibble-3 (x .mouseLock) (x .atMode) (x .secondSet) (q .highAllowed) in
         let latch : (k : ℕ) → has (at (stateOf m) 62) k ≡ has (highLatches p) k = λ k. ap (λ (x : ℕ). has x k) (behind 2) in
         let p22 : has (at (stateOf m) 62) 0 ≡ q .p22 = latch 0 ∙ nibble-0 (q .p22) (q .p23) false (q .p25) in
         let p23 : has (at (stateOf m) 62) 1 ≡ q .p23 = latch 1 ∙ nibble-1 (q .p22) (q .p23) false (q .p25) in
@@ -157,6 +174,8 @@ module _ (m : Machine) (short : length (m .secret .code) ≤ 16) where
               p22 = p22 i;
               p23 = p23 i;
               p25 = p25 i;
+              inputLatches = behind 1 i;
+              highAllowed = allowed i;
             };
             sending = p .sending;
             breaks = flags-breaks p i;
@@ -169,18 +188,18 @@ module _ (m : Machine) (short : length (m .secret .code) ≤ 16) where
 
 -- ---- fresh
 -- the bytes that a start stores
-abbrev pub started : ℕ → List ℕ
-started options = set (set (set (set (set (replicate 64 0) 2 0xFF) 3 3) 28 0x70) 60 options) 62 3
+abbrev pub started : ℕ → ℕ → List ℕ
+started options version = set (set (set (set (set (set (set (replicate 65 0) 2 0xFF) 3 3) 28 0x70) 60 options) 61 0x3F) 62 3) 64 version
 
-started-state : (x : Settings) → started (optionsOf x) ≡ stateOf (fresh x)
+started-state : (x : Settings) → started (optionsOf x false) (x .version) ≡ stateOf (fresh x)
 unfolding stateOf body fresh nibble
 started-state x = refl
 
-pub fresh-started : (x : Settings) {options : ℕ} → options ≡ optionsOf x →
-    (started options ≡ stateOf (fresh x)) × (view (started options) ≡ fresh x)
+pub fresh-started : (x : Settings) {options : ℕ} → options ≡ optionsOf x false →
+    (started options (x .version) ≡ stateOf (fresh x)) × (view (started options (x .version)) ≡ fresh x)
 unfolding fresh
 fresh-started x same =
-    let bytes = ap started same ∙ started-state x in
+    let bytes = ap (λ (n : ℕ). started n (x .version)) same ∙ started-state x in
     (bytes, ap view bytes ∙ view-state (fresh x) (omega arith) refl)
 
 -- ---- what stands for nothing is 0
@@ -249,17 +268,17 @@ module _ (s : List ℕ) (t : Tidy s) where
       ∙ ap (λ (x : List ℕ). x ++ take 32 (drop 28 s)) (sym (take-add 12 16 s))
       ∙ sym (take-add 28 32 s)
 
-  beyond-view : beyond (view s .plain) ≡ listed 60 4 s
-  beyond-view = λ i. t .beyond 0 i ∷ t .beyond 1 i ∷ t .beyond 2 i ∷ t .beyond 3 i ∷ []
+  beyond-view : beyond (view s .plain) ≡ listed 60 5 s
+  beyond-view = λ i. t .beyond 0 i ∷ at s 61 ∷ t .beyond 2 i ∷ t .beyond 3 i ∷ at s 64 ∷ []
 
   pub tidy-state : IsState s
   unfolding stateOf
   tidy-state =
       sym
       (ap₂ (λ (x y : List ℕ). x ++ y) body-view beyond-view
-      ∙ ap (λ (x : List ℕ). take 60 s ++ x) (sym (take-listed 60 4 s (omega arith)))
-      ∙ sym (take-add 60 4 s)
-      ∙ take-all 64 s (omega arith))
+      ∙ ap (λ (x : List ℕ). take 60 s ++ x) (sym (take-listed 60 5 s (omega arith)))
+      ∙ sym (take-add 60 5 s)
+      ∙ take-all 65 s (omega arith))
 
 -- and the other way round
 module _ (s : List ℕ) (long : length s ≡ stateLength) where

@@ -1,15 +1,18 @@
 -- Numbers that are bytes or half bytes: the lines of a port, the mode byte with a bit changed, the cells of a RAM.
 -- Assumes nothing.
-use Prim.Native.Nat.{ℕ, zero, suc, _+_, _*_, _<_, _≤_}
-use mathlib.Core.Path.{_≡_, refl}
-use mathlib.Core.Bool.{Bool, true, false, not, _&&_}
+use Prim.Native.Nat.{ℕ, zero, suc, _+_, _-_, _*_, _%_, _^_, _<_, _≤_}
+use mathlib.Core.Path.{_≡_, refl, ap}
+use mathlib.Core.Bool.{Bool, true, false, cond, not, _&&_}
 use mathlib.Core.List.{List, [], _∷_}
 use native.Mathlib.Omega.{arith}
 use lib.ListN.{getD, set, replicate}
+use lib.Dec.{eqb}
+use lib.Bits.{bitAnd, bitOr, and-le-l, or-lt}
+use Rattle.translation.specs.Bits.{bit, has}
 use Rattle.machine.specs.State.{Public}
-use Rattle.machine.specs.Lines.{weight, setBit, clearBit, atMode, nibble, mouseOff, keyboardOff, keyboardInterrupt}
+use Rattle.machine.specs.Lines.{weight, setBit, clearBit, atMode, secondSet, nibble, inputPort, mouseOff, keyboardOff, keyboardInterrupt}
 use Rattle.machine.specs.Lines.{keyboardRequest, mouseRequest, outputPort}
-use Rattle.machine.specs.Commands.{testInputs}
+use Rattle.machine.specs.Commands.{polled, testInputs}
 use Rattle.machine.proofs.Laws.Cond.{cond-both}
 
 -- ---- weight, nibble
@@ -40,6 +43,14 @@ testInputs-below p =
     (omega (arith, nibble-below true (not (keyboardOff p)) false false))
     (omega (arith, nibble-below (not (keyboardOff p)) (not (mouseOff p)) false false))
 
+-- ---- inputPort
+pub inputPort-below : (p : Public) → p .ports .pins < 256 → inputPort p < 256
+unfolding inputPort
+inputPort-below p h =
+    let pins = p .ports .pins in
+    let lines = bitOr (p .ports .inputLatches) 0xC0 in
+    cond-both (λ n. n < 256) (secondSet p) (omega (arith, and-le-l pins lines)) h
+
 -- ---- clearBit, setBit
 pub clearBit-below : (n k m : ℕ) → n < m → clearBit n k < m
 clearBit-below n k m h = omega arith
@@ -52,6 +63,34 @@ setBit-4-below n h = omega arith
 
 pub setBit-5-below : (n : ℕ) → n < 128 → setBit n 5 < 128
 setBit-5-below n h = omega arith
+
+-- ---- polled
+module _ (n : ℕ) (p : Public) where
+  pub polled-below : n < 16 → polled n p < 16
+  polled-below h = cond-both (λ x. x < 16) (secondSet p) (clearBit-below n 0 16 h) h
+
+  pub polled-even : secondSet p ≡ true → has (polled n p) 0 ≡ false
+  polled-even second = simp second (ap (λ (x : ℕ). eqb x 1) even)
+    where
+      even : bit (clearBit n 0) 0 ≡ 0
+      even = omega arith
+
+-- ---- lowLinesWritten, inputLineWritten: six bits
+pub lowLines-below : (n c : ℕ) → n < 64 → bitOr (bitAnd n 0x30) (c % 16) < 64
+lowLines-below n c low = or-lt 6 (bitAnd n 0x30) (c % 16) (omega (arith, and-le-l n 0x30)) (omega arith)
+
+pub inputLine-below : (n k : ℕ) (on : Bool) → k < 6 → n < 64 → cond on (bitOr n (2 ^ k)) (bitAnd n (0xFF - 2 ^ k)) < 64
+inputLine-below n k on h low =
+    cond-both (λ x. x < 64) on (or-lt 6 n (2 ^ k) low (below k h)) (omega (arith, and-le-l n (0xFF - 2 ^ k)))
+  where
+    below : (k : ℕ) → k < 6 → 2 ^ k < 64
+    below zero h = omega arith
+    below (suc zero) h = omega arith
+    below (suc (suc zero)) h = omega arith
+    below (suc (suc (suc zero))) h = omega arith
+    below (suc (suc (suc (suc zero)))) h = omega arith
+    below (suc (suc (suc (suc (suc zero))))) h = omega arith
+    below (suc (suc (suc (suc (suc (suc k)))))) h = absurd (omega arith)
 
 -- ---- getD
 pub getD-zeros : (n k : ℕ) → getD {A = ℕ} (replicate n 0) k 0 ≡ 0

@@ -1,31 +1,32 @@
 -- How changes of the state follow one another, and each store that the program makes as a change by a rule. Assumes nothing.
 use mathlib.Core.Path.{_≡_, refl, ap, sym, subst, _∙_}
-use mathlib.Core.Bool.{Bool, true, false, not, _&&_, false≢true}
+use mathlib.Core.Bool.{Bool, true, false, cond, not, _&&_, false≢true}
 use mathlib.Core.List.{List, [], _∷_}
-use Prim.Native.Nat.{ℕ, zero, suc, _+_, _%_, _≤_, _<_}
+use Prim.Native.Nat.{ℕ, zero, suc, _+_, _≤_, _<_}
 use native.Mathlib.Omega.{arith}
 use lib.Dec.{eqb, ltb}
 use lib.ListN.{length, getD, set, length-set}
 use lib.Seq.{getD-set-same, getD-set-other}
 use native.Mathlib.Nat.{not-suc-le-zero}
 use borrow.Author.Tests.{ltb-true, eqb-true, eqb-false}
-use Rattle.translation.specs.Bits.{bit}
+use Rattle.translation.specs.Bits.{has}
 use Rattle.translation.proofs.Tests.{split, and-true}
 use Rattle.machine.specs.State.{Machine, lift, withOutput, withErrors, withRam}
 use Rattle.machine.specs.Lines.{weight, nibble, atMode, withMode}
-use Rattle.machine.specs.DataPort.{settled, dataWritten, send, latched, dropped, appended}
+use Rattle.machine.specs.DataPort.{settled, dataWritten, send, lowLatched, highLatched, highWritable, latched, dropped, appended}
+use Rattle.machine.specs.SecondSet.{inputLatched, permitted}
 use Rattle.machine.specs.Commands.{pendingOf, cellNamed, commandWritten, overlaid, closed}
 use Rattle.machine.specs.Frames.{errorsSet, notTaken, breaking, positioned, opened, pinned}
 use Rattle.machine.specs.Events.{emptied}
 use Rattle.machine.specs.Flags as flags
 use Rattle.machine.specs.Flags.{Flags, flagsOf}
-use Rattle.machine.specs.View.{stateLength, at, public, view}
+use Rattle.machine.specs.View.{stateLength, optionsOf, at, public, view}
 use Rattle.machine.specs.Kept.{Kept}
 use Rattle.machine.specs.Changed.{Changed, KeptChange}
 use Rattle.machine.proofs.Laws.View as stores
 use Rattle.machine.proofs.Laws.View.{cleared, set-dropped}
-use Rattle.machine.proofs.Laws.Bits.{spread, highLatches-byte, highLatches-0, highLatches-1, highLatches-3}
-use Rattle.machine.proofs.Laws.Body.{tidied, Tidy, tidy-state, state-tidy}
+use Rattle.machine.proofs.Laws.Bits.{nibble-0, nibble-1, nibble-3, nibble-again, highLatches-again, latches-below}
+use Rattle.machine.proofs.Laws.Body.{settings-options, tidied, Tidy, tidy-state, state-tidy}
 
 -- ---- Changed
 pub changed : {rule : Machine → Machine} {s s′ : List ℕ} → length s ≡ stateLength → view s′ ≡ rule (view s) → (Tidy s → Tidy s′) → Changed rule s s′
@@ -184,15 +185,29 @@ module _ {s : List ℕ} (long : length s ≡ stateLength) where
   stored-mode = stored-cell {k = 0} (omega arith)
 
   -- ---- latches and overlay
-  stored-lowLatches : (v : ℕ) → Changed (lift (stores.lowLatched v)) s (set s 3 (v % 4))
-  stored-lowLatches v =
-      let low : bit (v % 4) 0 ≡ bit v 0 = omega arith in
-      let high : bit (v % 4) 1 ≡ bit v 1 = omega arith in
-      changed long (stores.set-latches s long (v % 4) ∙ rw (low, high))
-      (tidy-set (fits-latches (omega arith)))
+  stored-lowLatches : (a b : Bool) → Changed (lift (lowLatched a b)) s (set s 3 (nibble a b false false))
+  stored-lowLatches a b =
+      changed long (stores.set-latches s long (nibble a b false false) ∙ rw (nibble-0 a b false false, nibble-1 a b false false))
+      (tidy-set (fits-latches (latches-below a b)))
 
-  stored-highLatches : (v : ℕ) → Changed (lift (stores.highLatched (spread v))) s (set s 62 (spread v))
-  stored-highLatches v = changed long (stores.set-highLatches s long (spread v)) (tidy-set (fits-late 2 (highLatches-byte v)))
+  pub stored-highLatches : (a b c : Bool) {v : ℕ} → v ≡ nibble a b false c → Changed (lift (highLatched a b c)) s (set s 62 v)
+  stored-highLatches a b c isV =
+      subst (λ (x : ℕ). Changed (lift (highLatched a b c)) s (set s 62 x)) (sym isV)
+      (changed long
+      (stores.set-highLatches s long (nibble a b false c) ∙ rw (nibble-0 a b false c, nibble-1 a b false c, nibble-3 a b false c))
+      (tidy-set (fits-late 2 (highLatches-again a b c))))
+
+  -- the latches of P1, and whether D1h may write P22 and P23
+  pub stored-inputLatches : {v : ℕ} → Changed (lift (inputLatched v)) s (set s 61 v)
+  stored-inputLatches {v} = changed long (stores.set-inputLatches s long v) (tidy-set (fits-late 1 refl))
+
+  pub stored-permitted : (on : Bool) {v : ℕ} → v ≡ optionsOf (public s .settings) on → Changed (lift (permitted on)) s (set s 60 v)
+  stored-permitted on isV =
+      let x = public s .settings in
+      subst (λ (n : ℕ). Changed (lift (permitted on)) s (set s 60 n)) (sym isV)
+      (changed long
+      (stores.set-permitted s long (optionsOf x on) (settings-options x on) ∙ rw (nibble-3 (x .mouseLock) (x .atMode) (x .secondSet) on))
+      (tidy-set (fits-late 0 (nibble-again (x .mouseLock) (x .atMode) (x .secondSet) on))))
 
   -- the transmit time-out
   pub stored-timeout : (b : Bool) → Changed (lift (stores.timeoutSet b)) s (set s 63 (weight 1 b))
@@ -204,15 +219,29 @@ module _ {s : List ℕ} (long : length s ≡ stateLength) where
       changed long (stores.set-overlay s long n)
       (λ t. tidy-set (fits-free 7 refl) (tidy-set (fits-overlay (omega arith)) t))
 
--- ---- the latches that D1h writes: in PS/2 mode those of P20 and P21, in AT mode those of P22, P23 and P25 too
-module _ {s : List ℕ} {all : Bool} (long : length s ≡ stateLength) (isAll : all ≡ atMode (public s)) (v : ℕ) where
-  pub stored-two : all ≡ false → Changed (lift (latched v)) s (set s 3 (v % 4))
-  stored-two ps2 = by-rule (stored-lowLatches long v) (simp (sym isAll ∙ ps2))
+-- ---- the latches of P2, all of them
+pub stored-outputLatches : {s : List ℕ} → length s ≡ stateLength → (a b c d e : Bool) {low high : ℕ} → low ≡ nibble a b false false →
+    high ≡ nibble c d false e →
+    Changed (lift (λ p. highLatched c d e (lowLatched a b p))) s (set (set s 3 low) 62 high)
+stored-outputLatches {s} long a b c d e {low} {high} isLow isHigh =
+    subst (λ (n : ℕ). Changed (lift (λ p. highLatched c d e (lowLatched a b p))) s (set (set s 3 n) 62 high)) (sym isLow)
+    (chain (stored-lowLatches long a b) (stored-highLatches (length-set s 3 _ ∙ long) c d e isHigh))
 
-  pub stored-five : all ≡ true → Changed (lift (latched v)) s (set (set s 3 (v % 4)) 62 (spread v))
-  stored-five at′ =
-      by-two (stored-lowLatches long v) (stored-highLatches (length-set s 3 (v % 4) ∙ long) v)
-      (simp (sym isAll ∙ at′, highLatches-0 v, highLatches-1 v, highLatches-3 v))
+-- as D1h writes them
+pub stored-latched : {s : List ℕ} → length s ≡ stateLength → (v : ℕ) {high all c d e : Bool} {low upper : ℕ} →
+    high ≡ highWritable (public s) →
+    all ≡ atMode (public s) →
+    c ≡ cond high (has v 2) (public s .ports .p22) →
+    d ≡ cond high (has v 3) (public s .ports .p23) →
+    e ≡ cond all (has v 5) (public s .ports .p25) →
+    low ≡ nibble (has v 0) (has v 1) false false →
+    upper ≡ nibble c d false e →
+    Changed (lift (latched v)) s (set (set s 3 low) 62 upper)
+stored-latched {s} long v {c = c} {d = d} {e = e} isHigh isAll isC isD isE isLow isUpper =
+    let lines : Bool → Bool → Bool → Machine = λ x y z. lift (λ p. highLatched x y z (lowLatched (has v 0) (has v 1) p)) (view s) in
+    by-rule (stored-outputLatches long (has v 0) (has v 1) c d e isLow isUpper)
+    ((λ i. lines (isC i) (isD i) (isE i))
+    ∙ λ i. lines (cond (isHigh i) (has v 2) (public s .ports .p22)) (cond (isHigh i) (has v 3) (public s .ports .p23)) (cond (isAll i) (has v 5) (public s .ports .p25)))
 
 -- ---- flags: f is the flags' byte with some of them replaced
 abbrev pub Reflagged : List ℕ → ℕ → Flags → Type 0

@@ -1,18 +1,22 @@
 -- Laws of the definitions in specs/Commands. Assumes nothing.
 use mathlib.Core.Path.{_≡_, refl, ap, sym, _∙_}
-use mathlib.Core.Bool.{Bool, true, false, not, _&&_, false≢true}
+use mathlib.Core.Bool as bool
+use mathlib.Core.Bool.{Bool, true, false, cond, not, _&&_, _||_, false≢true}
 use Prim.Native.Nat.{ℕ, _-_, _/_, _%_, _≤_, _<_}
 use native.Mathlib.Omega.{arith}
 use lib.Dec.{leb}
 use borrow.Author.Tests.{leb-true, le-leb, lt-leb, eq-eqb, ne-eqb}
 use Rattle.translation.specs.Bits.{has}
+use Rattle.translation.proofs.Tests.{split}
 use Rattle.machine.specs.Settings.{Settings}
 use Rattle.machine.specs.State.{Public, Machine, lift}
-use Rattle.machine.specs.Lines.{atMode, nibble, put, putCell, keyboardOff, mouseOff, keyboardDisabled, keyboardEnabled, mouseDisabled, mouseEnabled}
+use Rattle.machine.specs.Lines.{within, clearBit, atMode, secondSet, inputPort, nibble, put, putCell, keyboardOff, mouseOff, keyboardDisabled, keyboardEnabled, mouseDisabled, mouseEnabled}
 use Rattle.machine.specs.DataPort.{dropped}
-use Rattle.machine.specs.Commands.{within, ps2Only, understood, commandWritten, loadCut, selfTested, testInputs, testInputsPut}
+use Rattle.machine.specs.SecondSet.{secondOnly, secondCommand}
+use Rattle.machine.specs.Commands.{ps2Only, firstOnly, notInSet, leftOut, understood, polled, commandWritten, loadCut, selfTested, testInputs, testInputsPut}
 use Rattle.machine.specs.Commands.{outputPortPut, namedCellPut, overlaid}
 use Rattle.machine.specs.Commands.{plainCommand, acts, hasCode, codeAsked, closed, lockedUp, writeCommand, pulseOf}
+use Rattle.machine.proofs.Laws.Cond.{and-false, or-false}
 
 -- ---- within
 and-left : (a b : Bool) → (a && b) ≡ true → a ≡ true
@@ -36,13 +40,44 @@ cell-of-20 c h = omega (arith, within-low 0x20 0x3F c h, within-high 0x20 0x3F c
 pub cell-of-61 : (c : ℕ) → within 0x61 0x7F c ≡ true → c % 32 ≡ c - 0x60
 cell-of-61 c h = omega (arith, within-low 0x61 0x7F c h, within-high 0x61 0x7F c h)
 
--- ---- understood
-module _ (x : Settings) (c : ℕ) {at′ only : Bool} (isAt : at′ ≡ x .atMode) (isOnly : only ≡ ps2Only c) where
-  pub understood-none : (at′ && only) ≡ true → 0 ≡ understood x c
-  understood-none h = simp (simp (isAt, isOnly) at h)
+-- ---- leftOut, understood
+-- a command that mode and set do not leave out
+pub record Known (x : Settings) (c : ℕ) : Type 0 where
+  pub mode : x .atMode ≡ true → ps2Only c ≡ false
+  pub first : x .secondSet ≡ true → firstOnly c ≡ false
+  pub second : x .secondSet ≡ false → secondOnly c ≡ false
 
-  pub understood-same : (at′ && only) ≡ false → c ≡ understood x c
-  understood-same h = simp (simp (isAt, isOnly) at h)
+pub known : (x : Settings) (c : ℕ) → leftOut x c ≡ false → Known x c
+known x c h =
+    let (mode, set) = or-false (x .atMode && ps2Only c) _ h in
+    record { mode = and-false _ _ mode; first = λ t. simp t at set; second = λ t. simp t at set }
+
+-- what is understood is not left out, whatever was written
+pub understood-known : (x : Settings) (c : ℕ) → Known x (understood x c)
+understood-known x c =
+    known x (understood x c)
+    (split (leftOut x c) (λ h. ap (λ (t : Bool). leftOut x (cond t 0 c)) h ∙ none) (λ h. ap (λ (t : Bool). leftOut x (cond t 0 c)) h ∙ h))
+  where
+    none : leftOut x 0 ≡ false
+    none = split (x .secondSet) (λ t. simp (t, bool.and-false)) (λ t. simp (t, bool.and-false))
+
+module _ (x : Settings) (c : ℕ) {at′ only other : Bool} (isAt : at′ ≡ x .atMode) (isOnly : only ≡ ps2Only c) (isOther : other ≡ notInSet x c) where
+  abbrev same : ((at′ && only) || other) ≡ leftOut x c
+  same = λ i. (isAt i && isOnly i) || isOther i
+
+  pub understood-none : ((at′ && only) || other) ≡ true → 0 ≡ understood x c
+  understood-none h = ap (λ (t : Bool). cond t 0 c) (sym h ∙ same)
+
+  pub understood-same : ((at′ && only) || other) ≡ false → c ≡ understood x c
+  understood-same h = ap (λ (t : Bool). cond t 0 c) (sym h ∙ same)
+
+-- ---- polled
+module _ (n : ℕ) (p : Public) {second : Bool} (isSecond : second ≡ secondSet p) where
+  pub polled-second : second ≡ true → clearBit n 0 ≡ polled n p
+  polled-second h = simp (sym isSecond ∙ h)
+
+  pub polled-first : second ≡ false → n ≡ polled n p
+  polled-first h = simp (sym isSecond ∙ h)
 
 -- ---- loadCut
 pub loadCut-load : (m : Machine) → m .plain .host .pending ≡ 3 → dropped m ≡ loadCut m
@@ -83,15 +118,15 @@ module _ (m : Machine) (c : ℕ) where
   unfolding plainCommand
   command-AE key = simp key
 
-  pub command-C0 : c ≡ 0xC0 → lift (λ p. put (p .ports .pins) p) m ≡ lift (plainCommand c) m
+  pub command-C0 : c ≡ 0xC0 → lift (λ p. put (inputPort p) p) m ≡ lift (plainCommand c) m
   unfolding plainCommand
   command-C0 key = simp key
 
-  pub command-C1 : c ≡ 0xC1 → lift (λ p. overlaid (p .ports .pins % 16) p) m ≡ lift (plainCommand c) m
+  pub command-C1 : c ≡ 0xC1 → lift (λ p. overlaid (polled (inputPort p % 16) p) p) m ≡ lift (plainCommand c) m
   unfolding plainCommand
   command-C1 key = simp key
 
-  pub command-C2 : c ≡ 0xC2 → lift (λ p. overlaid (p .ports .pins / 16) p) m ≡ lift (plainCommand c) m
+  pub command-C2 : c ≡ 0xC2 → lift (λ p. overlaid (polled (inputPort p / 16) p) p) m ≡ lift (plainCommand c) m
   unfolding plainCommand
   command-C2 key = simp key
 
@@ -109,7 +144,7 @@ module _ (m : Machine) (c : ℕ) where
       let named : within 0x20 0x3F c ≡ true = simp (le-leb 0x20 c low, le-leb c 0x3F high) in
       simp (named, cell-of-20 c named)
 
--- any other does nothing
+-- any other is the second set's
 module _
     (m : Machine)
     (c : ℕ)
@@ -126,7 +161,7 @@ module _
     (nD0 : c ≡ 0xD0 → ⊥)
     (nE0 : c ≡ 0xE0 → ⊥)
   where
-    command-other : within 0x20 0x3F c ≡ false → m ≡ lift (plainCommand c) m
+    command-other : within 0x20 0x3F c ≡ false → lift (secondCommand c) m ≡ lift (plainCommand c) m
     unfolding plainCommand
     command-other apart =
         simp (
@@ -145,10 +180,10 @@ module _
           ne-eqb _ _ nE0,
         )
 
-    pub command-low : c < 0x20 → m ≡ lift (plainCommand c) m
+    pub command-low : c < 0x20 → lift (secondCommand c) m ≡ lift (plainCommand c) m
     command-low h = command-other (simp (lt-leb 0x20 c h))
 
-    pub command-high : 0x20 ≤ c → 0x3F < c → m ≡ lift (plainCommand c) m
+    pub command-high : 0x20 ≤ c → 0x3F < c → lift (secondCommand c) m ≡ lift (plainCommand c) m
     command-high low h = command-other (simp (le-leb 0x20 c low, lt-leb c 0x3F h))
 
 -- ---- acts
@@ -198,13 +233,14 @@ module _ (x : Settings) (c : ℕ) where
 
 -- ---- codeAsked, lockedUp
 module _ (m : Machine) {has : Bool} (isHas : has ≡ hasCode m) where
-  pub codeAsked-some : has ≡ true → lift (put 0xFA) m ≡ codeAsked m
-  unfolding codeAsked
-  codeAsked-some h = simp (sym isHas ∙ h)
+  module _ {second : Bool} (isSecond : second ≡ secondSet (m .plain)) where
+    pub codeAsked-some : (has && not second) ≡ true → lift (put 0xFA) m ≡ codeAsked m
+    unfolding codeAsked
+    codeAsked-some h = simp (simp (isHas, isSecond) at h)
 
-  pub codeAsked-none : has ≡ false → lift (put 0xF1) m ≡ codeAsked m
-  unfolding codeAsked
-  codeAsked-none h = simp (sym isHas ∙ h)
+    pub codeAsked-none : (has && not second) ≡ false → lift (put 0xF1) m ≡ codeAsked m
+    unfolding codeAsked
+    codeAsked-none h = simp (simp (isHas, isSecond) at h)
 
   pub lockedUp-some : has ≡ true → lift (putCell 0x13) (closed m) ≡ lockedUp m
   unfolding lockedUp

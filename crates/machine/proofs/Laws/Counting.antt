@@ -1,8 +1,8 @@
 -- The machine's lock opens by the rule over all keys counted, from a fresh start and from an image, for every list of events.
 -- Assumes nothing.
-use Prim.Native.Nat.{ℕ}
+use Prim.Native.Nat.{ℕ, _<_}
 use mathlib.Core.Path.{_≡_, refl, ap, sym, _∙_, subst}
-use mathlib.Core.Bool.{Bool, true, false, cond, not, _||_, and-false}
+use mathlib.Core.Bool.{Bool, true, false, cond, not, _&&_, _||_, and-false}
 use mathlib.Core.List.{List, [], _∷_}
 use lib.Dec.{eqb, leb}
 use lib.ListN.{length}
@@ -12,7 +12,7 @@ use Rattle.translation.specs.ScanCodes.{Yielded, nothing, byte}
 use Rattle.translation.proofs.Tests.{split}
 use Rattle.machine.specs.Settings.{Settings}
 use Rattle.machine.specs.State.{Public, Secret, Machine, fresh, lift}
-use Rattle.machine.specs.Lines.{inhibited, put}
+use Rattle.machine.specs.Lines.{secondSet, inputPort, inhibited, put}
 use Rattle.machine.specs.DataPort.{loadByte, writeData}
 use Rattle.machine.specs.Commands.{hasCode, loadCut, codeAsked, lockedUp, acts, writeCommand}
 use Rattle.machine.specs.Lock.{opening, reached, begun, keyOpens, keyLeads}
@@ -100,12 +100,12 @@ module _ (keys : List ℕ) where
   module _ (m : Machine) (l : m .plain .locked ≡ true) (f : Follows m) where
     sound-left : (y : Yielded) (d : Bool) →
         Left (m .secret .code) keys (byteCounting y (m .plain)) (keyed y (lift (breaking d) (lift (errorsSet false false) m)))
-    unfolding byteCounting
+    unfolding byteCounting inputPort
     sound-left nothing d = byte-left (lift (breaking d) (lift (errorsSet false false) m)) l f nothing
     sound-left (byte x) d = byte-left (lift (breaking d) (lift (errorsSet false false) m)) l f (byte x)
 
     damaged-left : (t e : Bool) → Left (m .secret .code) keys starts (damagedKey t e m)
-    unfolding keyError keysWith opensWith
+    unfolding keyError inputPort keysWith opensWith
     damaged-left t e =
         record {
           locked = cond-both (λ (p : Public). p .locked ≡ true) (m .plain .locked || inhibited (m .plain)) l l;
@@ -155,7 +155,7 @@ module _ (m : Machine) (z : AtZero m) where
   acts-zero : (c : ℕ) → AtZero (acts c m)
   unfolding acts codeAsked lockedUp
   acts-zero c =
-      cond-both AtZero (eqb c 0xA4) (cond-both AtZero (hasCode m) z z)
+      cond-both AtZero (eqb c 0xA4) (cond-both AtZero (hasCode m && not (secondSet (m .plain))) z z)
       (cond-both AtZero (eqb c 0xA5) z (cond-both AtZero (eqb c 0xA6) (cond-both AtZero (hasCode m) refl z) z))
 
   keyed-zero : m .plain .locked ≡ false → (y : Yielded) → AtZero (keyed y m)
@@ -213,6 +213,6 @@ lock-by-rule m k =
     (record { kept = k; follows = λ l. sym (reached-begun (m .secret .code) (m .secret .position) (k .locked l .0)) })
 
 -- From fresh no key has been counted.
-pub lock-by-rule-fresh : (x : Settings) (es : List Event) → ByRule (after (fresh x) es) (keysAfter (fresh x) es [])
+pub lock-by-rule-fresh : (x : Settings) → x .version < 256 → (es : List Event) → ByRule (after (fresh x) es) (keysAfter (fresh x) es [])
 unfolding fresh begun
-lock-by-rule-fresh x = lock-by-rule (fresh x) (fresh-kept x)
+lock-by-rule-fresh x low = lock-by-rule (fresh x) (fresh-kept x low)

@@ -8,7 +8,7 @@ use lib.ListN.{getD}
 use borrow.Author.Tests.{eqb-true}
 use Rattle.translation.specs.Frames.{check, sound}
 use Rattle.translation.proofs.Frame.{check-sound}
-use Rattle.machine.specs.Settings.{Settings}
+use Rattle.machine.specs.Settings.{Settings, ordinary}
 use Rattle.machine.specs.State.{Machine, fresh, lift}
 use Rattle.machine.specs.DataPort.{writeData}
 use Rattle.machine.specs.Commands.{writeCommand}
@@ -33,15 +33,20 @@ module _ (x : Settings) where
       cells zero = omega arith
       cells (suc k) = omega (arith, getD-zeros 31 k)
 
-  pub fresh-kept : Kept (fresh x)
+  pub fresh-kept : x .version < 256 → Kept (fresh x)
   unfolding fresh
-  fresh-kept =
-      grouped-kept (fresh x) (omega arith, λ e. e) (λ _. refl) (omega arith, omega arith, λ _. refl, omega arith, λ _. refl)
-      (omega arith, λ _. (refl, refl, refl))
+  fresh-kept byte =
+      grouped-kept (fresh x) (omega arith, λ e. e) (λ _. refl)
+      (omega arith, omega arith, λ _. refl, omega arith, λ _. refl, λ _. refl, λ _ e. omega arith)
+      (omega arith, λ _ _. (refl, refl), λ _. refl, λ _. (refl, refl), omega arith)
       (omega arith, omega arith, λ _. refl)
       fresh-ram-kept
-      (omega arith, omega arith)
+      (omega arith, omega arith, λ _. refl)
       (λ l. not-both l refl, λ _. refl)
+      byte
+
+pub ordinary-kept : Kept (fresh ordinary)
+ordinary-kept = fresh-kept ordinary (omega arith)
 
 -- ---- emptied, accept, step
 pub emptied-kept : {m : Machine} → Kept m → Kept (lift emptied m)

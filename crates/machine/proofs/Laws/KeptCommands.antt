@@ -2,23 +2,27 @@
 -- Assumes nothing.
 use Prim.Native.Nat.{ℕ, _/_, _%_, _<_, _≤_}
 use mathlib.Core.Path.{_≡_, refl, ap}
-use mathlib.Core.Bool.{true, false}
+use mathlib.Core.Bool.{true, false, not, _&&_}
 use native.Mathlib.Omega.{arith}
 use lib.Dec.{eqb, leb}
 use lib.ListN.{length}
 use borrow.Author.Tests.{eqb-true, eqb-false, ne-eqb, leb-true, le-leb, not-true}
 use Rattle.translation.proofs.Tests.{and-true}
 use Rattle.machine.specs.State.{Machine, lift}
-use Rattle.machine.specs.Lines.{mode, clearBit}
-use Rattle.machine.specs.Commands.{within, understood, pendingOf, cellNamed, commandWritten, loadCut, overlaid, selfTested, plainCommand}
+use Rattle.machine.specs.Lines.{within, clearBit, secondSet, mode, inputPort}
+use Rattle.machine.specs.SecondSet.{secondOnly}
+use Rattle.machine.specs.Commands.{firstOnly, understood, polled, pendingOf, cellNamed, commandWritten, loadCut, overlaid, selfTested, plainCommand}
 use Rattle.machine.specs.Commands.{hasCode, codeAsked, closed, lockedUp, acts, writeCommand}
 use Rattle.machine.specs.Kept.{Kept}
 use Rattle.machine.proofs.Laws.Cond.{cond-holds, cond-both, not-both}
+use Rattle.machine.proofs.Laws.Commands.{Known, understood-known}
+use Rattle.machine.proofs.Laws.Bounds.{inputPort-below, polled-below, polled-even}
 use Rattle.machine.proofs.Laws.Bounds.{outputPort-below, testInputs-below, clearBit-below, setBit-2-below}
 use Rattle.machine.proofs.Laws.KeptParts.{withHost-kept, withLock-kept}
 use Rattle.machine.proofs.Laws.KeptLines.{KeptWith, put-kept, putCell-kept, withMode-kept}
 use Rattle.machine.proofs.Laws.KeptLines.{keyboardDisabled-kept, keyboardEnabled-kept, mouseDisabled-kept, mouseEnabled-kept}
 use Rattle.machine.proofs.Laws.KeptDataPort.{dropped-kept}
+use Rattle.machine.proofs.Laws.KeptSecondSet.{secondCommand-kept}
 
 -- ---- within, pendingOf, cellNamed
 within-true : (low high c : ℕ) → within low high c ≡ true → (low ≤ c) × (c ≤ high)
@@ -43,6 +47,18 @@ pendingOf-le c = pendingOf-holds (λ n. n ≤ 7) c (omega arith) (omega arith)
 pub pendingOf-cell : (c : ℕ) → pendingOf c ≡ 2 → (0x61 ≤ c) × (c ≤ 0x7F)
 pendingOf-cell c = pendingOf-holds (λ n. n ≡ 2 → (0x61 ≤ c) × (c ≤ 0x7F)) c (λ bounds _. bounds) (omega arith)
 
+-- a load is begun by A5h alone
+pub pendingOf-load : (c : ℕ) → pendingOf c ≡ 3 → c ≡ 0xA5
+unfolding pendingOf
+pendingOf-load c =
+    let P : ℕ → Type 0 = λ n. n ≡ 3 → c ≡ 0xA5 in
+    cond-both P (eqb c 0x60) (λ e. omega arith)
+    (cond-both P (within 0x61 0x7F c) (λ e. omega arith)
+    (cond-holds P (eqb c 0xA5) (λ e _. eqb-true c 0xA5 e) λ _.
+    cond-both P (eqb c 0xD1) (λ e. omega arith)
+    (cond-both P (eqb c 0xD2) (λ e. omega arith)
+    (cond-both P (eqb c 0xD3) (λ e. omega arith) (cond-both P (eqb c 0xD4) (λ e. omega arith) (λ e. omega arith))))))
+
 pub pendingOf-within : (c : ℕ) → within 0x61 0x7F c ≡ true → pendingOf c ≡ 2
 unfolding pendingOf
 pendingOf-within c e = simp (ne-eqb c 0x60 (omega (arith, within-true 0x61 0x7F c e)), e)
@@ -58,20 +74,23 @@ cellNamed-none c other =
 
 module _ {m : Machine} (k : Kept m) where
   -- ---- overlaid, selfTested, plainCommand
-  pub overlaid-kept : (n : ℕ) → n < 16 → Kept (lift (overlaid n) m)
+  pub overlaid-kept : (n : ℕ) → n < 16 → Kept (lift (overlaid (polled n (m .plain))) m)
   overlaid-kept n low =
-      withHost-kept k _ (k .pending, k .cell, k .noCell, low, λ o. not-both refl o) (λ l. k .locked l .1)
+      withHost-kept k _
+      (k .pending, k .cell, k .noCell, polled-below n (m .plain) low, λ o. not-both refl o, polled-even n (m .plain), k .noLoad)
+      (λ l. k .locked l .1)
 
   pub selfTested-kept : Kept (lift selfTested m)
   selfTested-kept =
       let on : clearBit (clearBit (mode (m .plain)) 4) 5 < 128 = clearBit-below _ 5 128 (clearBit-below _ 4 128 (k .modeByte)) in
       put-kept (withMode-kept k _ (setBit-2-below _ on)) 0x55 (omega arith)
 
-  pub plainCommand-kept : (c : ℕ) → Kept (lift (plainCommand c) m)
+  pub plainCommand-kept : (c : ℕ) → (secondSet (m .plain) ≡ false → secondOnly c ≡ false) → Kept (lift (plainCommand c) m)
   unfolding plainCommand
-  plainCommand-kept c =
+  plainCommand-kept c known =
       let P = KeptWith (m .secret) in
       let p = m .plain in
+      let port = inputPort-below p (k .pins) in
       cond-both P (within 0x20 0x3F c) (put-kept k _ (k .cells _))
       (cond-both P (eqb c 0xA7) (mouseDisabled-kept k)
       (cond-both P (eqb c 0xA8) (mouseEnabled-kept k)
@@ -80,16 +99,16 @@ module _ {m : Machine} (k : Kept m) where
       (cond-both P (eqb c 0xAB) (put-kept k 0 (omega arith))
       (cond-both P (eqb c 0xAD) (keyboardDisabled-kept k)
       (cond-both P (eqb c 0xAE) (keyboardEnabled-kept k)
-      (cond-both P (eqb c 0xC0) (put-kept k _ (k .pins))
-      (cond-both P (eqb c 0xC1) (overlaid-kept (p .ports .pins % 16) (omega arith))
-      (cond-both P (eqb c 0xC2) (overlaid-kept (p .ports .pins / 16) (omega arith))
+      (cond-both P (eqb c 0xC0) (put-kept k _ port)
+      (cond-both P (eqb c 0xC1) (overlaid-kept (inputPort p % 16) (omega arith))
+      (cond-both P (eqb c 0xC2) (overlaid-kept (inputPort p / 16) (omega (arith, port)))
       (cond-both P (eqb c 0xD0) (put-kept k _ (outputPort-below p))
-      (cond-both P (eqb c 0xE0) (put-kept k _ (testInputs-below p)) k))))))))))))
+      (cond-both P (eqb c 0xE0) (put-kept k _ (testInputs-below p)) (secondCommand-kept k c known)))))))))))))
 
   -- ---- codeAsked, closed, lockedUp
   pub codeAsked-kept : Kept (codeAsked m)
   unfolding codeAsked
-  codeAsked-kept = cond-both Kept (hasCode m) (put-kept k 0xFA (omega arith)) (put-kept k 0xF1 (omega arith))
+  codeAsked-kept = cond-both Kept (hasCode m && not (secondSet (m .plain))) (put-kept k 0xFA (omega arith)) (put-kept k 0xF1 (omega arith))
 
   module _ (settled : m .plain .host .pending ≡ 0) (nobody : m .plain .sending .to ≡ 0) where
     pub closed-kept : hasCode m ≡ true → Kept (closed m)
@@ -102,10 +121,11 @@ module _ {m : Machine} (k : Kept m) where
     lockedUp-kept = cond-holds Kept (hasCode m) (λ some. putCell-kept (closed-kept some) 0x13) λ _. k
 
 -- ---- commandWritten, acts, writeCommand
-module _ {m : Machine} (k : Kept m) (unlocked : m .plain .locked ≡ false) (c : ℕ) where
+module _ {m : Machine} (k : Kept m) (unlocked : m .plain .locked ≡ false) (c : ℕ) (known : Known (m .plain .settings) c) where
   pub commandWritten-kept : Kept (lift (commandWritten c) m)
   commandWritten-kept =
-      withHost-kept k _ (pendingOf-le c, cellNamed-some c, cellNamed-none c, omega arith, λ _. refl)
+      withHost-kept k _
+      (pendingOf-le c, cellNamed-some c, cellNamed-none c, omega arith, λ _. refl, λ _. refl, λ second e. not-both (ap firstOnly (pendingOf-load c e)) (known .first second))
       (λ l. not-both l unlocked)
 
   pub acts-kept : (c ≡ 0xA6 → m .plain .host .pending ≡ 0) → m .plain .sending .to ≡ 0 → Kept (acts c m)
@@ -113,18 +133,19 @@ module _ {m : Machine} (k : Kept m) (unlocked : m .plain .locked ≡ false) (c :
   acts-kept settled nobody =
       cond-both Kept (eqb c 0xA4) (codeAsked-kept k)
       (cond-both Kept (eqb c 0xA5) (dropped-kept k unlocked)
-      (cond-holds Kept (eqb c 0xA6) (λ e. lockedUp-kept k (settled (eqb-true _ _ e)) nobody) λ _. plainCommand-kept k c))
+      (cond-holds Kept (eqb c 0xA6) (λ e. lockedUp-kept k (settled (eqb-true _ _ e)) nobody) λ _. plainCommand-kept k c (known .second)))
 
 -- after the command has been written its own pending code stands, which is none for A6h
-acts-written-kept : {m : Machine} → Kept m → m .plain .locked ≡ false → m .plain .sending .to ≡ 0 → (c : ℕ) → Kept (acts c (lift (commandWritten c) m))
+acts-written-kept : {m : Machine} → Kept m → m .plain .locked ≡ false → m .plain .sending .to ≡ 0 → (c : ℕ) → Known (m .plain .settings) c →
+    Kept (acts c (lift (commandWritten c) m))
 unfolding pendingOf
-acts-written-kept k unlocked nobody c =
-    acts-kept (commandWritten-kept k unlocked c) unlocked c (λ e. ap pendingOf e) nobody
+acts-written-kept k unlocked nobody c known =
+    acts-kept (commandWritten-kept k unlocked c known) unlocked c known (λ e. ap pendingOf e) nobody
 
 pub writeCommand-kept : {m : Machine} → Kept m → m .plain .locked ≡ false → m .plain .sending .to ≡ 0 → (c : ℕ) → Kept (writeCommand c m)
 unfolding writeCommand loadCut
 writeCommand-kept {m} k unlocked nobody c =
     let known = understood (m .plain .settings) c in
     cond-both (λ x. Kept (acts known (lift (commandWritten known) x))) (eqb (m .plain .host .pending) 3)
-    (acts-written-kept (dropped-kept k unlocked) unlocked nobody known)
-    (acts-written-kept k unlocked nobody known)
+    (acts-written-kept (dropped-kept k unlocked) unlocked nobody known (understood-known (m .plain .settings) c))
+    (acts-written-kept k unlocked nobody known (understood-known (m .plain .settings) c))

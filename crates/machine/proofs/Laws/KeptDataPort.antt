@@ -21,13 +21,15 @@ use Rattle.machine.proofs.Laws.KeptLines.{KeptWith, put-kept, putMouse-
 -- ---- settled, dataWritten, latched, cellWritten: locked or not
 module _ {m : Machine} (k : Kept m) where
   pub settled-kept : Kept (lift settled m)
-  settled-kept = withHost-kept k _ (omega arith, omega arith, λ _. refl, k .nibble, k .noNibble) (λ _. refl)
+  settled-kept = withHost-kept k _ (omega arith, omega arith, λ _. refl, k .nibble, k .noNibble, k .evenNibble, λ _ e. omega arith) (λ _. refl)
 
   pub dataWritten-kept : Kept (lift dataWritten m)
   dataWritten-kept = withHost-kept k _ (kept-host k) (λ l. k .locked l .1)
 
   pub latched-kept : (v : ℕ) → Kept (lift (latched v) m)
-  latched-kept v = withPorts-kept k _ (k .pins, λ ps2. simp ps2 (k .latches ps2))
+  latched-kept v =
+      withPorts-kept k _
+      (k .pins, λ one ps2. simp (one, ps2) (k .latches one ps2), λ ps2. simp ps2 (k .p25 ps2), k .firstSet, k .inputLatches)
 
   pub cellWritten-kept : (v : ℕ) → v < 256 → m .plain .host .pending ≡ 2 → Kept (lift (cellWritten v) m)
   cellWritten-kept v byte named =
@@ -47,13 +49,14 @@ module _ {m : Machine} (k : Kept m) (unlocked : m .plain .locked ≡ false) wher
   send-kept to v low high byte = withSending-kept k _ (high, byte, omega arith) (λ l. not-both l unlocked)
 
   pub dropped-kept : Kept (dropped m)
-  dropped-kept = withCode-kept k [] (omega arith, omega arith) unlocked
+  dropped-kept = withCode-kept k [] (omega arith, omega arith, λ _. refl) unlocked
 
-  pub appended-kept : (v : ℕ) → 1 ≤ v → v < 256 → length (m .secret .code) < 16 → Kept (appended v m)
-  appended-kept v some byte short =
+  -- during a load, so not with the second command set
+  pub appended-kept : (v : ℕ) → 1 ≤ v → v < 256 → length (m .secret .code) < 16 → m .plain .host .pending ≡ 3 → Kept (appended v m)
+  appended-kept v some byte short loading =
       let c = m .secret .code in
       withCode-kept k (c ++ v ∷ [])
-      (omega (arith, length-append c (v ∷ [])), getD-append-holds (λ n. (1 ≤ n) × (n < 256)) c v (k .codeBytes) (some, byte))
+      (omega (arith, length-append c (v ∷ [])), getD-append-holds (λ n. (1 ≤ n) × (n < 256)) c v (k .codeBytes) (some, byte), λ second. absurd (k .noLoad second loading))
       unlocked
 
 pub sendKeyboard-kept : {m : Machine} → Kept m → m .plain .locked ≡ false → (v : ℕ) → v < 256 → Kept (lift (sendKeyboard v) m)
@@ -74,16 +77,16 @@ module _ {m : Machine} (k : Kept m) (unlocked : m .plain .locked ≡ false) (v :
       (cond-both P (eqb code 7) (send-kept k unlocked 2 v (omega arith) (omega arith) byte)
       (sendKeyboard-kept k unlocked v byte)))))
 
-  pub loadByte-kept : Kept (loadByte v m)
+  pub loadByte-kept : m .plain .host .pending ≡ 3 → Kept (loadByte v m)
   unfolding loadByte
-  loadByte-kept =
+  loadByte-kept loading =
       cond-holds Kept (eqb v 0) (λ _. settled-kept k) λ some.
       cond-holds Kept (codeFull m) (λ _. dropped-kept (settled-kept k) unlocked) λ short.
-      appended-kept k unlocked v (omega (arith, eqb-false v 0 some)) byte (leb-false _ _ short)
+      appended-kept k unlocked v (omega (arith, eqb-false v 0 some)) byte (leb-false _ _ short) loading
 
 pub writeData-kept : {m : Machine} → Kept m → m .plain .locked ≡ false → (v : ℕ) → v < 256 → Kept (writeData v m)
 unfolding writeData
 writeData-kept {m} k unlocked v byte =
     let k′ = dataWritten-kept k in
-    cond-both Kept (eqb (m .plain .host .pending) 3) (loadByte-kept k′ unlocked v byte)
-    (settled-kept (plainData-kept k′ unlocked v byte))
+    cond-holds Kept (eqb (m .plain .host .pending) 3) (λ e. loadByte-kept k′ unlocked v byte (eqb-true (m .plain .host .pending) 3 e))
+    (λ _. settled-kept (plainData-kept k′ unlocked v byte))

@@ -111,4 +111,4 @@ module _ {m : Machine} (k : Kept m) where
 
   -- ---- pinned
   pub pinned-kept : (v : ℕ) → v < 256 → Kept (lift (pinned v) m)
-  pinned-kept v small = withPorts-kept k _ (small, k .latches)
+  pinned-kept v small = withPorts-kept k _ (small, k .latches, k .p25, k .firstSet, k .inputLatches)

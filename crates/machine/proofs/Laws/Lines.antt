@@ -1,16 +1,22 @@
 -- Laws of the definitions in specs/Lines. Assumes nothing.
 use mathlib.Core.Path.{_≡_, refl, ap, sym, _∙_}
-use mathlib.Core.Bool.{Bool, true, false, _&&_}
+use mathlib.Core.Bool.{Bool, true, false, not, _&&_, _||_, or-true, and-true}
 use mathlib.Core.List.{List}
-use Prim.Native.Nat.{ℕ, _+_, _*_, _≤_, _<_}
+use Prim.Native.Nat.{ℕ, zero, suc, _+_, _*_, _/_, _%_, _^_, _≤_, _<_}
 use native.Mathlib.Omega.{arith}
 use lib.ListN.{length, getD, take, drop, length-take, List·getD-eq-default}
 use lib.Seq.{getD-take, getD-drop}
+use lib.Bits.{bitAnd, bitOr, and-shr, or-shr, and-mod, or-mod}
+use lib.Dec.{eqb, leb}
 use borrow.Author.Tests.{eq-eqb, ne-eqb}
+use Rattle.translation.specs.Bits.{bit, has}
+use Rattle.translation.proofs.Tests.{split, equal-below}
 use Rattle.machine.specs.State.{Public, Machine, lift}
-use Rattle.machine.specs.Lines.{weight, nibble, atMode, cellOf, keySwitch, statusBit5, highNibble, mouseInterrupt, keyboardInterrupt}
+use Rattle.machine.specs.Lines.{weight, nibble, atMode, secondSet, cellOf, override, inputPort, keySwitch, inhibited, mouseInhibited, statusBit5, overlayShown, highNibble}
+use Rattle.machine.specs.Lines.{mouseInterrupt, keyboardInterrupt}
 use Rattle.machine.specs.Lines.{mouseRequest, keyboardRequest, mouseOff, keyboardOff, ps2Port, atPort, outputPort, put, putCell}
 use Rattle.machine.specs.View.{stateLength, public}
+use Rattle.machine.proofs.Laws.Bits.{weight-eqb}
 use Rattle.machine.proofs.Laws.View.{ram-of}
 
 -- ---- nibble
@@ -62,6 +68,69 @@ off-weight true true true = refl
 port-weight : (n : ℕ) (a b k : Bool) → n + 16 * nibble a b false false + weight 64 k ≡ n + 16 * nibble a b k false
 port-weight n a b k = omega (arith, off-weight a b k)
 
+-- ---- inputPort
+-- what holds of 0 and of 1 holds of a bit
+bit-holds : (P : ℕ → Type 0) (x : ℕ) → x < 2 → P 0 → P 1 → P x
+bit-holds P zero h none one = none
+bit-holds P (suc zero) h none one = one
+bit-holds P (suc (suc x)) h none one = absurd (omega arith)
+
+has-and : (a b k : ℕ) → has (bitAnd a b) k ≡ (has a k && has b k)
+has-and a b k =
+    ap (λ (x : ℕ). eqb (x % 2) 1) (and-shr a b k) ∙ ap (λ (x : ℕ). eqb x 1) (and-mod (a / 2 ^ k) (b / 2 ^ k) 1)
+    ∙ bit-holds (λ x. eqb (bitAnd x (bit b k)) 1 ≡ (eqb x 1 && has b k)) (bit a k) (omega arith)
+    (bit-holds (λ y. eqb (bitAnd 0 y) 1 ≡ false) (bit b k) (omega arith) refl refl)
+    (bit-holds (λ y. eqb (bitAnd 1 y) 1 ≡ eqb y 1) (bit b k) (omega arith) refl refl)
+
+has-or : (a b k : ℕ) → has (bitOr a b) k ≡ (has a k || has b k)
+has-or a b k =
+    ap (λ (x : ℕ). eqb (x % 2) 1) (or-shr a b k) ∙ ap (λ (x : ℕ). eqb x 1) (or-mod (a / 2 ^ k) (b / 2 ^ k) 1)
+    ∙ bit-holds (λ x. eqb (bitOr x (bit b k)) 1 ≡ (eqb x 1 || has b k)) (bit a k) (omega arith)
+    (bit-holds (λ y. eqb (bitOr 0 y) 1 ≡ eqb y 1) (bit b k) (omega arith) refl refl)
+    (bit-holds (λ y. eqb (bitOr 1 y) 1 ≡ true) (bit b k) (omega arith) refl refl)
+
+module _ (p : Public) where
+  -- With the second command set a line reads 1 exactly if its pin and, below P16, its latch are 1.
+  pub inputPort-line : (k : ℕ) → k < 8 → secondSet p ≡ true → has (inputPort p) k ≡ (has (p .ports .pins) k && (has (p .ports .inputLatches) k || leb 6 k))
+  unfolding inputPort
+  inputPort-line k inside second =
+      let free : has 0xC0 k ≡ leb 6 k = ap (λ (x : ℕ). eqb x 1) (equal-below (bit 0xC0) (λ k. weight 1 (leb 6 k)) 8 refl k inside) ∙ weight-eqb (leb 6 k) in
+      simp second (has-and (p .ports .pins) (bitOr (p .ports .inputLatches) 0xC0) k ∙ simp (has-or (p .ports .inputLatches) 0xC0 k, free))
+
+  -- P17 has no latch
+  pub keySwitch-pin : has (p .ports .pins) 7 ≡ keySwitch p
+  keySwitch-pin =
+      split (secondSet p)
+      (λ second. sym (inputPort-line 7 (omega arith) second ∙ simp (or-true, and-true)))
+      (λ first. unfold inputPort in simp first)
+
+  module _ {switch : Bool} (isSwitch : switch ≡ keySwitch p) where
+    pub inhibited-switch : (not switch && not (override p)) ≡ inhibited p
+    inhibited-switch = ap (λ (t : Bool). not t && not (override p)) isSwitch
+
+    pub mouseInhibited-switch : (p .settings .mouseLock && not switch) ≡ mouseInhibited p
+    mouseInhibited-switch = ap (λ (t : Bool). p .settings .mouseLock && not t) isSwitch
+
+  module _ {second : Bool} (isSecond : second ≡ secondSet p) where
+    pub inputPort-second : second ≡ true → bitAnd (p .ports .pins) (bitOr (p .ports .inputLatches) 0xC0) ≡ inputPort p
+    unfolding inputPort
+    inputPort-second h = simp (sym isSecond ∙ h)
+
+    pub inputPort-first : second ≡ false → p .ports .pins ≡ inputPort p
+    unfolding inputPort
+    inputPort-first h = simp (sym isSecond ∙ h)
+
+    -- ---- overlayShown
+    pub overlayShown-second : {r : ℕ} {switch : Bool} → second ≡ true → switch ≡ keySwitch p →
+        r ≡ 16 * nibble switch (has (p .host .nibble) 1) (has (p .host .nibble) 2) (has (p .host .nibble) 3) →
+        r ≡ 16 * overlayShown p
+    unfolding overlayShown
+    overlayShown-second h isSwitch made = made ∙ simp (sym isSecond ∙ h, isSwitch)
+
+    pub overlayShown-first : second ≡ false → 16 * (p .host .nibble % 16) ≡ 16 * overlayShown p
+    unfolding overlayShown
+    overlayShown-first h = simp (sym isSecond ∙ h)
+
 -- ---- statusBit5, highNibble
 module _ (p : Public) {at′ : Bool} (isAt : at′ ≡ atMode p) where
   pub statusBit5-at : {r : Bool} → at′ ≡ true → r ≡ p .errors .ttim → r ≡ statusBit5 p
@@ -70,12 +139,17 @@ module _ (p : Public) {at′ : Bool} (isAt : at′ ≡ atMode p) where
   pub statusBit5-ps2 : {full mouse : Bool} → at′ ≡ false → full ≡ p .output .full → mouse ≡ p .output .mouse → (full && mouse) ≡ statusBit5 p
   statusBit5-ps2 h isFull isMouse = simp (sym isAt ∙ h, isFull, isMouse)
 
-pub highNibble-lines : (p : Public) {r : ℕ} {shown : Bool} → p .host .overlay ≡ false →
-    r ≡ 16 * nibble (keySwitch p) shown (p .errors .terr) (p .errors .perr) →
+pub highNibble-overlay : (p : Public) {r : ℕ} → p .host .overlay ≡ true → r ≡ 16 * overlayShown p → r ≡ 16 * highNibble p
+unfolding highNibble
+highNibble-overlay p some made = made ∙ simp some
+
+pub highNibble-lines : (p : Public) {r : ℕ} {switch shown : Bool} → p .host .overlay ≡ false →
+    r ≡ 16 * nibble switch shown (p .errors .terr) (p .errors .perr) →
+    switch ≡ keySwitch p →
     shown ≡ statusBit5 p →
     r ≡ 16 * highNibble p
 unfolding highNibble
-highNibble-lines p none made isBit = made ∙ simp (none, isBit)
+highNibble-lines p none made isSwitch isBit = made ∙ simp (none, isSwitch, isBit)
 
 -- ---- the interrupt requests
 module _ (p : Public) {r : ℕ} {full mouse : Bool} (isFull : full ≡ p .output .full) (isMouse : mouse ≡ p .output .mouse) where

@@ -9,6 +9,7 @@ use Rattle.machine.specs.Settings.{Settings}
 use Rattle.machine.specs.State.{Public, Machine, fresh}
 use Rattle.machine.specs.Lines.{putCell}
 use Rattle.machine.specs.DataPort.{plainData, loadByte, writeData}
+use Rattle.machine.specs.SecondSet.{lineWritten, singleCommand, secondCommand}
 use Rattle.machine.specs.Commands.{loadCut, plainCommand, codeAsked, lockedUp, acts, writeCommand}
 use Rattle.machine.specs.Frames.{keyError, counted, try, keyed, keyedByte, soundKey}
 use Rattle.machine.specs.Frames.{keyboardFrame, mousePut, mouseFrame, timedOut}
@@ -43,9 +44,13 @@ module _ (p : Public) where
   unfolding plainData
   plainData-settings v = simp (of-public, same)
 
+  secondCommand-settings : (c : ℕ) → secondCommand c p .settings ≡ p .settings
+  unfolding secondCommand lineWritten singleCommand
+  secondCommand-settings c = simp (of-public, same)
+
   plainCommand-settings : (c : ℕ) → plainCommand c p .settings ≡ p .settings
   unfolding plainCommand
-  plainCommand-settings c = simp (of-public, same)
+  plainCommand-settings c = simp (of-public, secondCommand-settings, same)
 
   keyError-settings : keyError p .settings ≡ p .settings
   unfolding keyError

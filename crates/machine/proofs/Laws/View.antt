@@ -9,13 +9,15 @@ use lib.Seq.{take-set-le, take-set-lt, drop-set-lt, drop-set-add, drop-cons, set
 use Rattle.machine.proofs.Laws.Code.{code-append, code-long}
 use Rattle.machine.proofs.Laws.Lists.{listed, front}
 use Rattle.translation.specs.Bits.{has}
-use Rattle.machine.specs.State.{Public, Machine, lift, withOutput, withErrors, withHost, withPorts, withRam}
+use Rattle.machine.specs.Settings.{Settings, settingsOf}
+use Rattle.machine.specs.State.{Public, Machine, lift, withOutput, withErrors, withHost, withRam}
 use Rattle.machine.specs.Lines.{withMode}
-use Rattle.machine.specs.DataPort.{settled, send, dropped, appended}
+use Rattle.machine.specs.DataPort.{settled, send, lowLatched, highLatched, dropped, appended}
+use Rattle.machine.specs.SecondSet.{inputLatched, permitted}
 use Rattle.machine.specs.Commands.{overlaid}
 use Rattle.machine.specs.Frames.{positioned, pinned}
 use Rattle.machine.specs.Flags.{Flags, flagsOf}
-use Rattle.machine.specs.View.{stateLength, view}
+use Rattle.machine.specs.View.{stateLength, at, view}
 
 -- ---- stores
 -- the first twelve bytes one by one, and the rest
@@ -25,30 +27,45 @@ shown s = listed 0 12 s ++ drop 12 s
 pub set-pins : (s : List ℕ) → length s ≡ stateLength → (v : ℕ) → view (set s 2 v) ≡ lift (pinned v) (view s)
 set-pins s long v = front 12 (λ s. view (set s 2 v) ≡ lift (pinned v) (view s)) s (omega arith) refl
 
--- the latches of P20 and P21
-abbrev pub lowLatched : ℕ → Public → Public
-lowLatched v p =
-    let q = p .ports in
-    withPorts p (record { pins = q .pins; p20 = has v 0; p21 = has v 1; p22 = q .p22; p23 = q .p23; p25 = q .p25 })
+pub set-latches : (s : List ℕ) → length s ≡ stateLength → (v : ℕ) → view (set s 3 v) ≡ lift (lowLatched (has v 0) (has v 1)) (view s)
+set-latches s long v = front 12 (λ s. view (set s 3 v) ≡ lift (lowLatched (has v 0) (has v 1)) (view s)) s (omega arith) refl
 
-pub set-latches : (s : List ℕ) → length s ≡ stateLength → (v : ℕ) → view (set s 3 v) ≡ lift (lowLatched v) (view s)
-set-latches s long v = front 12 (λ s. view (set s 3 v) ≡ lift (lowLatched v) (view s)) s (omega arith) refl
+pub set-highLatches : (s : List ℕ) → length s ≡ stateLength → (v : ℕ) → view (set s 62 v) ≡ lift (highLatched (has v 0) (has v 1) (has v 3)) (view s)
+set-highLatches s long v = front 65 (λ s. view (set s 62 v) ≡ lift (highLatched (has v 0) (has v 1) (has v 3)) (view s)) s (omega arith) refl
 
--- those of P22, P23 and P25
-abbrev pub highLatched : ℕ → Public → Public
-highLatched v p =
-    let q = p .ports in
-    withPorts p (record { pins = q .pins; p20 = q .p20; p21 = q .p21; p22 = has v 0; p23 = has v 1; p25 = has v 3 })
+pub set-inputLatches : (s : List ℕ) → length s ≡ stateLength → (v : ℕ) → view (set s 61 v) ≡ lift (inputLatched v) (view s)
+set-inputLatches s long v = front 65 (λ s. view (set s 61 v) ≡ lift (inputLatched v) (view s)) s (omega arith) refl
 
-pub set-highLatches : (s : List ℕ) → length s ≡ stateLength → (v : ℕ) → view (set s 62 v) ≡ lift (highLatched v) (view s)
-set-highLatches s long v = front 64 (λ s. view (set s 62 v) ≡ lift (highLatched v) (view s)) s (omega arith) refl
+-- the options, of which bit 3 alone may change
+abbrev withSettings : Settings → Public → Public
+withSettings x p =
+    record {
+      output = p .output;
+      errors = p .errors;
+      host = p .host;
+      ports = p .ports;
+      sending = p .sending;
+      breaks = p .breaks;
+      locked = p .locked;
+      ram = p .ram;
+      settings = x;
+    }
+
+pub set-permitted : (s : List ℕ) → length s ≡ stateLength → (v : ℕ) → settingsOf v (at s 64) ≡ settingsOf (at s 60) (at s 64) →
+    view (set s 60 v) ≡ lift (permitted (has v 3)) (view s)
+set-permitted s long v =
+    front 65
+    (λ s. settingsOf v (at s 64) ≡ settingsOf (at s 60) (at s 64) → view (set s 60 v) ≡ lift (permitted (has v 3)) (view s))
+    s
+    (omega arith)
+    (λ same. ap (λ (x : Settings). lift (withSettings x) (lift (permitted (has v 3)) (view (listed 0 65 s ++ drop 65 s)))) same)
 
 -- the transmit time-out
 abbrev pub timeoutSet : Bool → Public → Public
 timeoutSet b p = withErrors p (record { terr = p .errors .terr; perr = p .errors .perr; ttim = b })
 
 pub set-timeout : (s : List ℕ) → length s ≡ stateLength → (v : ℕ) → view (set s 63 v) ≡ lift (timeoutSet (has v 0)) (view s)
-set-timeout s long v = front 64 (λ s. view (set s 63 v) ≡ lift (timeoutSet (has v 0)) (view s)) s (omega arith) refl
+set-timeout s long v = front 65 (λ s. view (set s 63 v) ≡ lift (timeoutSet (has v 0)) (view s)) s (omega arith) refl
 
 pub set-settled : (s : List ℕ) → length s ≡ stateLength → view (set (set s 4 0) 5 0) ≡ lift settled (view s)
 set-settled s long = front 12 (λ s. view (set (set s 4 0) 5 0) ≡ lift settled (view s)) s (omega arith) refl
@@ -130,8 +147,10 @@ set-beside s long k v h cells =
     ∙ rw (
       take-set-le 16 rest (16 + k) v (omega arith),
       getD-set-other rest (16 + k) 48 v 0 (λ e. omega arith),
+      getD-set-other rest (16 + k) 49 v 0 (λ e. omega arith),
       getD-set-other rest (16 + k) 50 v 0 (λ e. omega arith),
       getD-set-other rest (16 + k) 51 v 0 (λ e. omega arith),
+      getD-set-other rest (16 + k) 52 v 0 (λ e. omega arith),
     ) refl)
 
 -- a cell of the RAM; cell 0 is the mode byte
@@ -162,8 +181,10 @@ set-appended s long v =
       drop-set-lt 17 rest n v (omega arith),
       getD-set-other rest n 16 v 0 (others h 16 (omega arith)),
       getD-set-other rest n 48 v 0 (others h 48 (omega arith)),
+      getD-set-other rest n 49 v 0 (others h 49 (omega arith)),
       getD-set-other rest n 50 v 0 (others h 50 (omega arith)),
       getD-set-other rest n 51 v 0 (others h 51 (omega arith)),
+      getD-set-other rest n 52 v 0 (others h 52 (omega arith)),
       code-append n (take 16 rest) (code-long s long) h v,
     ) refl)
 

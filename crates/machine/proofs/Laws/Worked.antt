@@ -5,8 +5,9 @@ use mathlib.Core.Bool.{true}
 use Rattle.translation.specs.Frames.{check, ones, frame}
 use Rattle.translation.specs.ScanCodes.{translate, raw, builtIn, rows}
 use Rattle.machine.specs.State.{fresh}
-use Rattle.machine.specs.Lines.{nibble, highNibble, status, putCell}
+use Rattle.machine.specs.Lines.{nibble, inputPort, highNibble, status, putCell}
 use Rattle.machine.specs.DataPort.{plainData, loadByte, writeData}
+use Rattle.machine.specs.SecondSet.{singleCommand, secondCommand}
 use Rattle.machine.specs.Commands.{pendingOf, loadCut, plainCommand, codeAsked, lockedUp, acts, writeCommand}
 use Rattle.machine.specs.Lock.{endWith, longest, begun}
 use Rattle.machine.specs.Frames.{keyError, counted, try, keyedByte, keyed, translated, soundKey, keyboardFrame}
@@ -15,8 +16,8 @@ use Rattle.machine.specs.Run.{after}
 use Rattle.machine.specs.Worked.{holds, allHold, table, slips}
 
 both-tables : (allHold table ≡ true) × (allHold slips ≡ true)
-unfolding check ones frame translate raw builtIn rows fresh nibble highNibble status putCell
-    plainData loadByte writeData pendingOf loadCut plainCommand codeAsked lockedUp acts writeCommand
+unfolding check ones frame translate raw builtIn rows fresh nibble inputPort highNibble status putCell
+    plainData loadByte writeData pendingOf loadCut plainCommand secondCommand singleCommand codeAsked lockedUp acts writeCommand
     keyError endWith longest begun counted try keyedByte keyed translated soundKey keyboardFrame
     stateRefusal refusal accept step reply after holds allHold table slips
 both-tables = (refl, refl)

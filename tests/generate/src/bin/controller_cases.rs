@@ -79,6 +79,20 @@ pub fn at_case(name: &[u8], events: &[u8]) {
     case_under(Settings::AT_MODE, name, events);
 }
 
+/// The same with the second command set and the version byte 5Ah.
+pub fn second_case(name: &[u8], events: &[u8]) {
+    case_under(Settings::SECOND_SET.with_version(0x5A), name, events);
+}
+
+/// The same in AT mode.
+pub fn second_at_case(name: &[u8], events: &[u8]) {
+    case_under(
+        Settings::SECOND_SET_IN_AT_MODE.with_version(0x5A),
+        name,
+        events,
+    );
+}
+
 fn case_under(settings: Settings, name: &[u8], events: &[u8]) {
     let list = parse(events);
     let mut answers = vec![MARK; list.len() / EVENT_SIZE * ANSWER_SIZE];
@@ -100,4 +114,5 @@ fn main() {
     cases::mouse_lock();
     cases::noise();
     cases::at_mode();
+    cases::second_set();
 }

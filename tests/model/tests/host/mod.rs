@@ -3,10 +3,33 @@
 
 use model::{Controller, Settings, frame};
 
-/// AT mode, without and with the mouse lock.
+/// AT mode with the first set, without and with the mouse lock.
 pub const IN_AT_MODE: [Settings; 2] = [Settings::AT_MODE, Settings::AT_MODE_AND_MOUSE_LOCK];
 /// PS/2 mode, likewise.
 pub const IN_PS2_MODE: [Settings; 2] = [Settings::ORDINARY, Settings::MOUSE_LOCK];
+
+/// The first set in both modes.
+pub const FIRST_SET: [Settings; 4] = [
+    Settings::ORDINARY,
+    Settings::MOUSE_LOCK,
+    Settings::AT_MODE,
+    Settings::AT_MODE_AND_MOUSE_LOCK,
+];
+
+/// The second set in PS/2 mode, and in AT mode.
+pub const SECOND_SET_IN_PS2_MODE: [Settings; 2] =
+    [Settings::SECOND_SET, Settings::SECOND_SET_AND_MOUSE_LOCK];
+pub const SECOND_SET_IN_AT_MODE: [Settings; 2] = [
+    Settings::SECOND_SET_IN_AT_MODE,
+    Settings::SECOND_SET_IN_AT_MODE_AND_MOUSE_LOCK,
+];
+/// The second set in both modes.
+pub const SECOND_SET: [Settings; 4] = [
+    Settings::SECOND_SET,
+    Settings::SECOND_SET_AND_MOUSE_LOCK,
+    Settings::SECOND_SET_IN_AT_MODE,
+    Settings::SECOND_SET_IN_AT_MODE_AND_MOUSE_LOCK,
+];
 
 pub struct Host {
     pub state: Controller,

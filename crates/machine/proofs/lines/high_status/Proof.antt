@@ -1,40 +1,38 @@
 -- `machine::lines::high_status` meets its contract. The overlay's test picks the case of the definition.
 -- Assumes nothing.
 use borrow.Author.Needs.{needs}
-use native.Mathlib.Omega.{arith}
 use borrow.Author.Tests.{eq-eqb, ne-eqb}
-use Rattle.machine.specs.Lines.{highNibble}
-use Rattle.machine.proofs.Laws.Lines.{highNibble-lines}
+use Rattle.machine.proofs.Laws.Lines.{highNibble-overlay, highNibble-lines}
 use Rattle.machine.proofs.lines.high_status.Statement.{statement}
 use Rattle.machine.proofs.lines.high_status.Tie as tie
+use Rattle.machine.proofs.lines.key_switch.Reads as key-switch-reads
+use Rattle.machine.proofs.lines.overlay_shown.Reads as overlay-shown-reads
+use Rattle.machine.proofs.lines.status_bit_5.Reads as status-bit-5-reads
+use Rattle.machine.proofs.weights.upper.Reads as upper-reads
 
 element-copy-out-if1 : tie.Need-element-copy-out-if1
 element-copy-out-if1 c = search needs
 
-element-copy-out-result : tie.Need-element-copy-out-result
-element-copy-out-result c = search needs
+overlay-shown-requires : tie.Need-overlay-shown-requires
+overlay-shown-requires c κs = search needs
 
-mul-result : tie.Need-mul-result
-mul-result c = search needs
-
-element-copy-out-upper : tie.Need-element-copy-out-upper
-element-copy-out-upper c = search needs
+key-switch-requires : tie.Need-key-switch-requires
+key-switch-requires c κs = search needs
 
 status-bit-5-requires : tie.Need-status-bit-5-requires
 status-bit-5-requires c κs = search needs
 
+element-copy-out-upper : tie.Need-element-copy-out-upper
+element-copy-out-upper c = search needs
+
 element-copy-out-upper-2 : tie.Need-element-copy-out-upper-2
 element-copy-out-upper-2 c = search needs
-
-element-copy-out-upper-3 : tie.Need-element-copy-out-upper-3
-element-copy-out-upper-3 c = search needs
 
 upper-requires : tie.Need-upper-requires
 upper-requires c κs = search needs
 
 returns : tie.Need-returns
-unfolding highNibble
-returns c = (simp (eq-eqb _ _ (c .before .if1 .taken)), omega arith)
+returns c = (search (highNibble-overlay, eq-eqb), c .overlay-shown .ensures .1)
 
 returns-2 : tie.Need-returns-2
 returns-2 c = (search (highNibble-lines, ne-eqb), c .upper .ensures .1)
@@ -44,12 +42,11 @@ high-status-spec =
     tie.close
     (tie.spec
     element-copy-out-if1
-    element-copy-out-result
-    mul-result
-    element-copy-out-upper
+    overlay-shown-requires
+    key-switch-requires
     status-bit-5-requires
+    element-copy-out-upper
     element-copy-out-upper-2
-    element-copy-out-upper-3
     upper-requires
     returns
     returns-2)

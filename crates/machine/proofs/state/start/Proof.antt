@@ -4,6 +4,7 @@ use borrow.Author.Needs.{needs}
 use Rattle.machine.proofs.Laws.Body.{fresh-started}
 use Rattle.machine.proofs.state.start.Statement.{statement}
 use Rattle.machine.proofs.state.start.Tie as tie
+use Rattle.machine.proofs.settings.options_of.Reads as options-of-reads
 
 array-write-s : tie.Need-array-write-s
 array-write-s c = search needs
@@ -23,6 +24,12 @@ array-write-s-4 c = search needs
 array-write-s-5 : tie.Need-array-write-s-5
 array-write-s-5 c = search needs
 
+array-write-s-6 : tie.Need-array-write-s-6
+array-write-s-6 c = search needs
+
+array-write-s-7 : tie.Need-array-write-s-7
+array-write-s-7 c = search needs
+
 returns : tie.Need-returns
 returns c = fresh-started _ (c .options-of .ensures)
 
@@ -36,4 +43,6 @@ start-spec =
     options-of-requires
     array-write-s-4
     array-write-s-5
+    array-write-s-6
+    array-write-s-7
     returns)

@@ -1,13 +1,19 @@
--- `ports::commands::ask_code` meets its contract. The test is the definition's.
+-- `ports::commands::ask_code` meets its contract. The two answers are the definition's.
 -- Assumes nothing.
 use borrow.Author.Needs.{needs}
 use Rattle.machine.proofs.Laws.Changed.{by-rule}
 use Rattle.machine.proofs.Laws.Commands.{codeAsked-some, codeAsked-none}
 use Rattle.ports.proofs.commands.ask_code.Statement.{statement}
 use Rattle.ports.proofs.commands.ask_code.Tie as tie
+use Rattle.machine.proofs.lines.put.Reads as put-reads
+use Rattle.machine.proofs.lines.second_set.Reads as second-set-reads
+use Rattle.ports.proofs.commands.has_code.Reads as has-code-reads
 
 has-code-requires : tie.Need-has-code-requires
 has-code-requires c κs = search needs
+
+second-set-requires : tie.Need-second-set-requires
+second-set-requires c κs = search needs
 
 put-requires : tie.Need-put-requires
 put-requires c κs = search needs
@@ -23,4 +29,5 @@ returns-2 c = search (by-rule, codeAsked-none)
 
 pub ask-code-spec : {M : Type 1} → statement M
 ask-code-spec =
-    tie.close (tie.spec has-code-requires put-requires put-requires-2 returns returns-2)
+    tie.close
+    (tie.spec has-code-requires second-set-requires put-requires put-requires-2 returns returns-2)

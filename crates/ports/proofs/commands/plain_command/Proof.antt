@@ -1,12 +1,26 @@
 -- `ports::commands::plain_command` meets its contract. Each arm is a case of the definition, which computes once the command is known.
 -- Assumes nothing.
+use mathlib.Core.Logic.{⊎-elim}
 use borrow.Author.Needs.{needs}
 use native.Mathlib.Omega.{arith}
 use Rattle.machine.proofs.Laws.Commands.{command-A7, command-A8, command-A9, command-AA, command-AB, command-AD, command-AE}
 use Rattle.machine.proofs.Laws.Commands.{command-C0, command-C1, command-C2, command-D0, command-E0, command-cell, command-low, command-high}
-use Rattle.machine.proofs.Laws.Changed.{by-rule, untouched}
+use Rattle.machine.proofs.Laws.Changed.{by-rule}
 use Rattle.ports.proofs.commands.plain_command.Statement.{statement}
 use Rattle.ports.proofs.commands.plain_command.Tie as tie
+use Rattle.machine.proofs.lines.put.Reads as put-reads
+use Rattle.ports.proofs.commands.put_named_cell.Reads as put-named-cell-reads
+use Rattle.ports.proofs.commands.put_output_port.Reads as put-output-port-reads
+use Rattle.ports.proofs.commands.put_pins.Reads as put-pins-reads
+use Rattle.ports.proofs.commands.put_test_inputs.Reads as put-test-inputs-reads
+use Rattle.ports.proofs.commands.self_test.Reads as self-test-reads
+use Rattle.ports.proofs.commands.show_high_pins.Reads as show-high-pins-reads
+use Rattle.ports.proofs.commands.show_low_pins.Reads as show-low-pins-reads
+use Rattle.ports.proofs.mode.disable_keyboard.Reads as disable-keyboard-reads
+use Rattle.ports.proofs.mode.disable_mouse.Reads as disable-mouse-reads
+use Rattle.ports.proofs.mode.enable_keyboard.Reads as enable-keyboard-reads
+use Rattle.ports.proofs.mode.enable_mouse.Reads as enable-mouse-reads
+use Rattle.ports.proofs.second_set.second_command.Reads as second-command-reads
 
 disable-mouse-requires : tie.Need-disable-mouse-requires
 disable-mouse-requires c κs = search needs
@@ -47,6 +61,9 @@ put-test-inputs-requires c κs = search needs
 put-named-cell-requires : tie.Need-put-named-cell-requires
 put-named-cell-requires c κs = search needs
 
+second-command-requires : tie.Need-second-command-requires
+second-command-requires c κs = search needs
+
 returns : tie.Need-returns
 returns c = search (by-rule, command-A7)
 
@@ -84,13 +101,12 @@ returns-12 : tie.Need-returns-12
 returns-12 c = search (by-rule, command-E0)
 
 returns-13 : tie.Need-returns-13
-returns-13 c = untouched (search command-low)
+returns-13 c = by-rule (c .put-named-cell .ensures) (command-cell _ _ (omega arith) (omega arith))
 
 returns-14 : tie.Need-returns-14
-returns-14 c = by-rule (c .put-named-cell .ensures) (command-cell _ _ (omega arith) (omega arith))
-
-returns-15 : tie.Need-returns-15
-returns-15 c = untouched (search command-high)
+returns-14 c =
+    let change = c .second-command .ensures in
+    ⊎-elim (λ w. by-rule change (search command-low)) (λ w. by-rule change (search command-high)) (c .before .before .if1 .came)
 
 pub plain-command-spec : {M : Type 1} → statement M
 plain-command-spec =
@@ -109,6 +125,7 @@ plain-command-spec =
     put-output-port-requires
     put-test-inputs-requires
     put-named-cell-requires
+    second-command-requires
     returns
     returns-2
     returns-3
@@ -122,5 +139,4 @@ plain-command-spec =
     returns-11
     returns-12
     returns-13
-    returns-14
-    returns-15)
+    returns-14)

@@ -4,6 +4,9 @@ use borrow.Author.Needs.{needs}
 use Rattle.machine.proofs.Laws.Commands.{understood-none, understood-same}
 use Rattle.ports.proofs.commands.understood.Statement.{statement}
 use Rattle.ports.proofs.commands.understood.Tie as tie
+use Rattle.machine.proofs.lines.at_mode.Reads as at-mode-reads
+use Rattle.ports.proofs.commands.ps2_only.Reads as ps2-only-reads
+use Rattle.ports.proofs.commands.not_in_set.Reads as not-in-set-reads
 
 at-mode-requires : tie.Need-at-mode-requires
 at-mode-requires c κs = search needs
@@ -11,11 +14,16 @@ at-mode-requires c κs = search needs
 ps2-only-requires : tie.Need-ps2-only-requires
 ps2-only-requires c κs = search needs
 
+not-in-set-requires : tie.Need-not-in-set-requires
+not-in-set-requires c κs = search needs
+
 returns : tie.Need-returns
-returns c = search understood-none
+returns c = search (understood-none)
 
 returns-2 : tie.Need-returns-2
 returns-2 c = search understood-same
 
 pub understood-spec : {M : Type 1} → statement M
-understood-spec = tie.close (tie.spec at-mode-requires ps2-only-requires returns returns-2)
+understood-spec =
+    tie.close
+    (tie.spec at-mode-requires ps2-only-requires not-in-set-requires returns returns-2)

@@ -1,43 +1,64 @@
--- `ports::data_port::latch` meets its contract. The stores are the law's, two latches or all five by the mode.
+-- `ports::data_port::latch` meets its contract. The stores are the law's; which lines they hold was picked as in the definition.
 -- Assumes nothing.
 use borrow.Author.Needs.{needs}
-use Rattle.machine.proofs.Laws.Changed.{stored-two, stored-five}
+use Rattle.machine.proofs.Laws.Changed.{stored-latched}
 use Rattle.ports.proofs.data_port.latch.Statement.{statement}
 use Rattle.ports.proofs.data_port.latch.Tie as tie
+use Rattle.machine.proofs.lines.at_mode.Reads as at-mode-reads
+use Rattle.machine.proofs.state.sized.Reads as sized-reads
+use Rattle.machine.proofs.weights.nibble.Reads as nibble-reads
+use Rattle.ports.proofs.data_port.either.Reads as either-reads
+use Rattle.ports.proofs.data_port.high_writable.Reads as high-writable-reads
 
 sized-requires : tie.Need-sized-requires
 sized-requires c κs = search needs
 
+high-writable-requires : tie.Need-high-writable-requires
+high-writable-requires c κs = search needs
+
+element-copy-out-old : tie.Need-element-copy-out-old
+element-copy-out-old c = search needs
+
+either-requires : tie.Need-either-requires
+either-requires c κs = search needs
+
+either-requires-2 : tie.Need-either-requires-2
+either-requires-2 c κs = search needs
+
 at-mode-requires : tie.Need-at-mode-requires
 at-mode-requires c κs = search needs
+
+either-requires-3 : tie.Need-either-requires-3
+either-requires-3 c κs = search needs
+
+nibble-requires : tie.Need-nibble-requires
+nibble-requires c κs = search needs
 
 element-write-s : tie.Need-element-write-s
 element-write-s c = search needs
 
-mul-s : tie.Need-mul-s
-mul-s c = search needs
-
-add-s : tie.Need-add-s
-add-s c = search needs
+nibble-requires-2 : tie.Need-nibble-requires-2
+nibble-requires-2 c κs = search needs
 
 element-write-s-2 : tie.Need-element-write-s-2
 element-write-s-2 c = search needs
 
 returns : tie.Need-returns
-returns c = search stored-five
-
-returns-2 : tie.Need-returns-2
-returns-2 c = search stored-two
+returns c = search stored-latched
 
 pub latch-spec : {M : Type 1} → statement M
 latch-spec =
     tie.close
     (tie.spec
     sized-requires
+    high-writable-requires
+    element-copy-out-old
+    either-requires
+    either-requires-2
     at-mode-requires
+    either-requires-3
+    nibble-requires
     element-write-s
-    mul-s
-    add-s
+    nibble-requires-2
     element-write-s-2
-    returns
-    returns-2)
+    returns)

@@ -1,0 +1,25 @@
+-- `ports::commands::polled` meets its contract. The set's test picks the case of the definition.
+-- Assumes nothing.
+use borrow.Author.Needs.{needs}
+use Rattle.machine.proofs.Laws.Commands.{polled-second, polled-first}
+use Rattle.ports.proofs.commands.polled.Statement.{statement}
+use Rattle.ports.proofs.commands.polled.Tie as tie
+use Rattle.machine.proofs.lines.second_set.Reads as second-set-reads
+
+second-set-requires : tie.Need-second-set-requires
+second-set-requires c κs = search needs
+
+mul-result : tie.Need-mul-result
+mul-result c = search needs
+
+sub-result : tie.Need-sub-result
+sub-result c = search needs
+
+returns : tie.Need-returns
+returns c = search polled-second
+
+returns-2 : tie.Need-returns-2
+returns-2 c = search polled-first
+
+pub polled-spec : {M : Type 1} → statement M
+polled-spec = tie.close (tie.spec second-set-requires mul-result sub-result returns returns-2)

@@ -1,0 +1,20 @@
+-- `ports::commands::put_pins` meets its contract. The byte that is put is the port as it is read.
+-- Assumes nothing.
+use borrow.Author.Needs.{needs}
+use Rattle.machine.proofs.Laws.Changed.{by-rule}
+use Rattle.ports.proofs.commands.put_pins.Statement.{statement}
+use Rattle.ports.proofs.commands.put_pins.Tie as tie
+use Rattle.machine.proofs.lines.input_port.Reads as input-port-reads
+use Rattle.machine.proofs.lines.put.Reads as put-reads
+
+input-port-requires : tie.Need-input-port-requires
+input-port-requires c κs = search needs
+
+put-requires : tie.Need-put-requires
+put-requires c κs = search needs
+
+returns : tie.Need-returns
+returns c = by-rule (c .put .ensures .change) (cc)
+
+pub put-pins-spec : {M : Type 1} → statement M
+put-pins-spec = tie.close (tie.spec input-port-requires put-requires returns)

@@ -1,0 +1,25 @@
+-- `ports::commands::show_high_pins` meets its contract. The nibble that is shown is the one that was made.
+-- Assumes nothing.
+use borrow.Author.Needs.{needs}
+use Rattle.machine.proofs.Laws.Changed.{by-rule}
+use Rattle.ports.proofs.commands.show_high_pins.Statement.{statement}
+use Rattle.ports.proofs.commands.show_high_pins.Tie as tie
+use Rattle.machine.proofs.lines.input_port.Reads as input-port-reads
+use Rattle.ports.proofs.commands.overlay.Reads as overlay-reads
+use Rattle.ports.proofs.commands.polled.Reads as polled-reads
+
+input-port-requires : tie.Need-input-port-requires
+input-port-requires c κs = search needs
+
+polled-requires : tie.Need-polled-requires
+polled-requires c κs = search needs
+
+overlay-requires : tie.Need-overlay-requires
+overlay-requires c κs = search needs
+
+returns : tie.Need-returns
+returns c = by-rule (c .overlay .ensures) (cc)
+
+pub show-high-pins-spec : {M : Type 1} → statement M
+show-high-pins-spec =
+    tie.close (tie.spec input-port-requires polled-requires overlay-requires returns)

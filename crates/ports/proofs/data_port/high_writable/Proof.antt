@@ -1,0 +1,28 @@
+-- `ports::data_port::high_writable` meets its contract. It is one of two lines, as in the definition.
+-- Assumes nothing.
+use borrow.Author.Needs.{needs}
+use Rattle.ports.proofs.data_port.high_writable.Statement.{statement}
+use Rattle.ports.proofs.data_port.high_writable.Tie as tie
+use Rattle.machine.proofs.lines.at_mode.Reads as at-mode-reads
+use Rattle.machine.proofs.lines.second_set.Reads as second-set-reads
+use Rattle.ports.proofs.data_port.either.Reads as either-reads
+
+second-set-requires : tie.Need-second-set-requires
+second-set-requires c κs = search needs
+
+element-copy-out-either : tie.Need-element-copy-out-either
+element-copy-out-either c = search needs
+
+at-mode-requires : tie.Need-at-mode-requires
+at-mode-requires c κs = search needs
+
+either-requires : tie.Need-either-requires
+either-requires c κs = search needs
+
+returns : tie.Need-returns
+returns c = cc
+
+pub high-writable-spec : {M : Type 1} → statement M
+high-writable-spec =
+    tie.close
+    (tie.spec second-set-requires element-copy-out-either at-mode-requires either-requires returns)

@@ -1,0 +1,28 @@
+-- `ports::second_set::permit` meets its contract. The store is the law's.
+-- Assumes nothing.
+use borrow.Author.Needs.{needs}
+use Rattle.machine.proofs.Laws.Changed.{stored-permitted}
+use Rattle.ports.proofs.second_set.permit.Statement.{statement}
+use Rattle.ports.proofs.second_set.permit.Tie as tie
+use Rattle.machine.proofs.state.sized.Reads as sized-reads
+use Rattle.machine.proofs.weights.nibble.Reads as nibble-reads
+
+sized-requires : tie.Need-sized-requires
+sized-requires c κs = search needs
+
+element-copy-out-old : tie.Need-element-copy-out-old
+element-copy-out-old c = search needs
+
+nibble-requires : tie.Need-nibble-requires
+nibble-requires c κs = search needs
+
+element-write-s : tie.Need-element-write-s
+element-write-s c = search needs
+
+returns : tie.Need-returns
+returns c = stored-permitted (search needs) _ (c .nibble .ensures .0)
+
+pub permit-spec : {M : Type 1} → statement M
+permit-spec =
+    tie.close
+    (tie.spec sized-requires element-copy-out-old nibble-requires element-write-s returns)

@@ -1,0 +1,24 @@
+-- `ports::second_set::put_mode` meets its contract. The byte that is put is the one that was made.
+-- Assumes nothing.
+use borrow.Author.Needs.{needs}
+use Rattle.machine.proofs.Laws.Changed.{by-rule}
+use Rattle.ports.proofs.second_set.put_mode.Statement.{statement}
+use Rattle.ports.proofs.second_set.put_mode.Tie as tie
+use Rattle.machine.proofs.lines.at_mode.Reads as at-mode-reads
+use Rattle.machine.proofs.lines.put.Reads as put-reads
+use Rattle.machine.proofs.weights.weight.Reads as weight-reads
+
+at-mode-requires : tie.Need-at-mode-requires
+at-mode-requires c κs = search needs
+
+weight-requires : tie.Need-weight-requires
+weight-requires c κs = search needs
+
+put-requires : tie.Need-put-requires
+put-requires c κs = search needs
+
+returns : tie.Need-returns
+returns c = by-rule (c .put .ensures .change) (cc)
+
+pub put-mode-spec : {M : Type 1} → statement M
+put-mode-spec = tie.close (tie.spec at-mode-requires weight-requires put-requires returns)

@@ -1,0 +1,26 @@
+-- `ports::second_set::second_only` meets its contract. The tests are the definition's own.
+-- Assumes nothing.
+use borrow.Author.Needs.{needs}
+use Rattle.ports.proofs.second_set.second_only.Statement.{statement}
+use Rattle.ports.proofs.second_set.second_only.Tie as tie
+use Rattle.ports.proofs.second_set.within.Reads as within-reads
+
+within-requires : tie.Need-within-requires
+within-requires c κs = search needs
+
+within-requires-2 : tie.Need-within-requires-2
+within-requires-2 c κs = search needs
+
+within-requires-3 : tie.Need-within-requires-3
+within-requires-3 c κs = search needs
+
+within-requires-4 : tie.Need-within-requires-4
+within-requires-4 c κs = search needs
+
+returns : tie.Need-returns
+returns c = cc
+
+pub second-only-spec : {M : Type 1} → statement M
+second-only-spec =
+    tie.close
+    (tie.spec within-requires within-requires-2 within-requires-3 within-requires-4 returns)

@@ -1,0 +1,52 @@
+/* What the C programs of the tests check with. */
+#ifndef CHECKS_H
+#define CHECKS_H
+
+#include <stdio.h>
+#include <string.h>
+
+#include "calugnid.h"
+
+/* The part of a state that an image holds. The byte after it is the options,
+ * of which three bits are looked at. */
+enum { BODY_BYTES = 60, OPTION_CHOICES = 8 };
+
+static int failures;
+
+#define CHECK(condition) check((condition), #condition, __FILE__, __LINE__)
+
+static inline void check(bool holds, const char *condition, const char *file, int line)
+{
+    if (holds)
+        return;
+    printf("%s, line %d: %s\n", file, line, condition);
+    failures++;
+}
+
+/* Whether the event is accepted, reads nothing and leaves these lines, with
+ * nothing being sent. */
+static inline bool leaves(uint8_t *state, uint8_t kind, uint16_t value, uint8_t status, uint8_t p2)
+{
+    const uint8_t right[] = {0, 0, 0, status, p2, 0, 0, 0, 0};
+    uint8_t answer[CALUGNID_ANSWER_BYTES];
+
+    calugnid_event(state, kind, value, answer);
+    return memcmp(answer, right, sizeof right) == 0;
+}
+
+/* Whether the host reads this byte, new or old. */
+static inline bool reads(uint8_t *state, uint8_t byte, bool old)
+{
+    uint8_t answer[CALUGNID_ANSWER_BYTES];
+
+    calugnid_event(state, CALUGNID_READ_DATA, 0, answer);
+    return answer[CALUGNID_AT_READ] == byte && (answer[CALUGNID_AT_OLD] == 1) == old;
+}
+
+/* Whether the command puts this byte and nothing else changes. */
+static inline bool puts_byte(uint8_t *state, uint8_t command, uint8_t byte, uint8_t p2)
+{
+    return leaves(state, CALUGNID_WRITE_COMMAND, command, 0x19, p2) && reads(state, byte, false);
+}
+
+#endif
