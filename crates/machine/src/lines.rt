@@ -26,6 +26,13 @@ ghost use Rattle.machine.specs.Lines as lines;
 ghost use Rattle.machine.specs.View.{public};
 ghost use Rattle.machine.specs.Changed.{KeptChange};
 
+// One of the numbers from low to high.
+pub fn within(low: u8, high: u8, c: u8) -> bool
+    ensures { λ r. ⌜ r ≡ lines.within low high c ⌝ }
+{
+    (low <= c) & (c <= high)
+}
+
 // Started in AT mode, else in PS/2 mode.
 pub fn at_mode(s: &State) -> bool
     ensures { λ r. ⌜ r ≡ lines.atMode (public (now (s .entry))) ⌝ }

@@ -4,4 +4,3 @@ pub mod commands;
 pub mod data_port;
 mod mode;
 pub mod reads;
-mod second_set;

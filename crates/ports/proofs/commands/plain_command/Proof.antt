@@ -20,7 +20,7 @@ use Rattle.ports.proofs.mode.disable_keyboard.Reads as disable-keyboard
 use Rattle.ports.proofs.mode.disable_mouse.Reads as disable-mouse-reads
 use Rattle.ports.proofs.mode.enable_keyboard.Reads as enable-keyboard-reads
 use Rattle.ports.proofs.mode.enable_mouse.Reads as enable-mouse-reads
-use Rattle.ports.proofs.second_set.second_command.Reads as second-command-reads
+use Rattle.vt82c42.proofs.second_set.second_command.Reads as second-command-reads
 
 disable-mouse-requires : tie.Need-disable-mouse-requires
 disable-mouse-requires c κs = search needs
@@ -105,7 +105,7 @@ returns-13 c = by-rule (c .put-named-cell .ensures) (command-cell _ _ (omega ari
 
 returns-14 : tie.Need-returns-14
 returns-14 c =
-    let change = c .second-command .ensures in
+    let change = c .second-command .ensures .change in
     ⊎-elim (λ w. by-rule change (search command-low)) (λ w. by-rule change (search command-high)) (c .before .before .if1 .came)
 
 pub plain-command-spec : {M : Type 1} → statement M

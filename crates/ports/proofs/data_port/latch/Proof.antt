@@ -44,7 +44,18 @@ element-write-s-2 : tie.Need-element-write-s-2
 element-write-s-2 c = search needs
 
 returns : tie.Need-returns
-returns c = search stored-latched
+returns c =
+    let third = c .before .before in
+    let second = third .before .before .before in
+    let writable = second .before .before .before in
+    stored-latched (search needs) (writable .before .before .before .before .args .v)
+    (writable .high-writable .ensures)
+    (third .before .at-mode .ensures)
+    (second .before .either .ensures)
+    (second .either2 .ensures)
+    (third .either3 .ensures)
+    (c .before .nibble .ensures .0)
+    (c .nibble2 .ensures .0)
 
 pub latch-spec : {M : Type 1} → statement M
 latch-spec =

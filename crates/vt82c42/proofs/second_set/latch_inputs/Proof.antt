@@ -1,9 +1,9 @@
--- `ports::second_set::latch_inputs` meets its contract. The store is the law's.
+-- `vt82c42::second_set::latch_inputs` meets its contract. The store is the law's.
 -- Assumes nothing.
 use borrow.Author.Needs.{needs}
 use Rattle.machine.proofs.Laws.Changed.{stored-inputLatches}
-use Rattle.ports.proofs.second_set.latch_inputs.Statement.{statement}
-use Rattle.ports.proofs.second_set.latch_inputs.Tie as tie
+use Rattle.vt82c42.proofs.second_set.latch_inputs.Statement.{statement}
+use Rattle.vt82c42.proofs.second_set.latch_inputs.Tie as tie
 use Rattle.machine.proofs.state.sized.Reads as sized-reads
 
 sized-requires : tie.Need-sized-requires

@@ -1,6 +1,7 @@
 // The second command set, the VT82C42's: what its own commands do.
 use machine::lines::at_mode;
 use machine::lines::put;
+use machine::lines::within;
 use machine::state::HIGH_LATCHES;
 use machine::state::INPUT_LATCHES;
 use machine::state::LATCHES;
@@ -14,20 +15,13 @@ ghost use mathlib.Core.Path.{_≡_};
 ghost use Prim.Native.Nat.{_%_};
 ghost use lib.Dec.{leb};
 ghost use Rattle.machine.specs.State.{lift};
-ghost use Rattle.machine.specs.Lines as lines;
 ghost use Rattle.machine.specs.DataPort as port;
 ghost use Rattle.machine.specs.SecondSet as second;
 ghost use Rattle.machine.specs.Changed.{Changed};
-
-// A command from low to high.
-pub(crate) fn within(low: u8, high: u8, c: u8) -> bool
-    ensures { λ r. ⌜ r ≡ lines.within low high c ⌝ }
-{
-    (low <= c) & (c <= high)
-}
+ghost use Rattle.vt82c42.specs.Promises.{SecondChange};
 
 // A command that the first set has not.
-pub(crate) fn second_only(c: u8) -> bool
+pub fn second_only(c: u8) -> bool
     ensures { λ r. ⌜ r ≡ second.secondOnly c ⌝ }
 {
     within(0x90, 0x9F, c)
@@ -147,8 +141,9 @@ fn single_command(s: &mut State, c: u8)
     }
 }
 
-pub(crate) fn second_command(s: &mut State, c: u8)
-    ensures { λ _. ⌜ Changed (lift (second.secondCommand c)) (now (s .entry)) (now (s .exit)) ⌝ }
+// Any command but these does nothing.
+pub fn second_command(s: &mut State, c: u8)
+    ensures { λ _. ⌜ SecondChange c (now (s .entry)) (now (s .exit)) ⌝ }
 {
     if within(0x90, 0x9F, c) {
         write_low_lines(s, c);

@@ -1,9 +1,9 @@
--- `ports::second_set::put_mode` meets its contract. The byte that is put is the one that was made.
+-- `vt82c42::second_set::put_mode` meets its contract. The byte that is put is the one that was made.
 -- Assumes nothing.
 use borrow.Author.Needs.{needs}
 use Rattle.machine.proofs.Laws.Changed.{by-rule}
-use Rattle.ports.proofs.second_set.put_mode.Statement.{statement}
-use Rattle.ports.proofs.second_set.put_mode.Tie as tie
+use Rattle.vt82c42.proofs.second_set.put_mode.Statement.{statement}
+use Rattle.vt82c42.proofs.second_set.put_mode.Tie as tie
 use Rattle.machine.proofs.lines.at_mode.Reads as at-mode-reads
 use Rattle.machine.proofs.lines.put.Reads as put-reads
 use Rattle.machine.proofs.weights.weight.Reads as weight-reads

@@ -1,10 +1,9 @@
--- `ports::second_set::latch_p23` meets its contract. The store is the law's.
+-- `vt82c42::second_set::permit` meets its contract. The store is the law's.
 -- Assumes nothing.
-use mathlib.Core.Path.{refl}
 use borrow.Author.Needs.{needs}
-use Rattle.machine.proofs.Laws.Changed.{by-rule, stored-highLatches}
-use Rattle.ports.proofs.second_set.latch_p23.Statement.{statement}
-use Rattle.ports.proofs.second_set.latch_p23.Tie as tie
+use Rattle.machine.proofs.Laws.Changed.{stored-permitted}
+use Rattle.vt82c42.proofs.second_set.permit.Statement.{statement}
+use Rattle.vt82c42.proofs.second_set.permit.Tie as tie
 use Rattle.machine.proofs.state.sized.Reads as sized-reads
 use Rattle.machine.proofs.weights.nibble.Reads as nibble-reads
 
@@ -21,9 +20,9 @@ element-write-s : tie.Need-element-write-s
 element-write-s c = search needs
 
 returns : tie.Need-returns
-returns c = by-rule (stored-highLatches (search needs) _ _ _ (c .nibble .ensures .0)) refl
+returns c = stored-permitted (search needs) _ (c .nibble .ensures .0)
 
-pub latch-p23-spec : {M : Type 1} → statement M
-latch-p23-spec =
+pub permit-spec : {M : Type 1} → statement M
+permit-spec =
     tie.close
     (tie.spec sized-requires element-copy-out-old nibble-requires element-write-s returns)

@@ -1,10 +1,10 @@
--- `ports::second_set::set_output_lines` meets its contract. The stores are the law's.
+-- `vt82c42::second_set::set_output_lines` meets its contract. The stores are the law's.
 -- Assumes nothing.
 use mathlib.Core.Path.{refl}
 use borrow.Author.Needs.{needs}
 use Rattle.machine.proofs.Laws.Changed.{by-rule, stored-outputLatches}
-use Rattle.ports.proofs.second_set.set_output_lines.Statement.{statement}
-use Rattle.ports.proofs.second_set.set_output_lines.Tie as tie
+use Rattle.vt82c42.proofs.second_set.set_output_lines.Statement.{statement}
+use Rattle.vt82c42.proofs.second_set.set_output_lines.Tie as tie
 use Rattle.machine.proofs.state.sized.Reads as sized-reads
 use Rattle.machine.proofs.weights.nibble.Reads as nibble-reads
 

@@ -1,10 +1,10 @@
--- `ports::second_set::latch_p22` meets its contract. The store is the law's.
+-- `vt82c42::second_set::latch_p23` meets its contract. The store is the law's.
 -- Assumes nothing.
 use mathlib.Core.Path.{refl}
 use borrow.Author.Needs.{needs}
 use Rattle.machine.proofs.Laws.Changed.{by-rule, stored-highLatches}
-use Rattle.ports.proofs.second_set.latch_p22.Statement.{statement}
-use Rattle.ports.proofs.second_set.latch_p22.Tie as tie
+use Rattle.vt82c42.proofs.second_set.latch_p23.Statement.{statement}
+use Rattle.vt82c42.proofs.second_set.latch_p23.Tie as tie
 use Rattle.machine.proofs.state.sized.Reads as sized-reads
 use Rattle.machine.proofs.weights.nibble.Reads as nibble-reads
 
@@ -23,7 +23,7 @@ element-write-s c = search needs
 returns : tie.Need-returns
 returns c = by-rule (stored-highLatches (search needs) _ _ _ (c .nibble .ensures .0)) refl
 
-pub latch-p22-spec : {M : Type 1} → statement M
-latch-p22-spec =
+pub latch-p23-spec : {M : Type 1} → statement M
+latch-p23-spec =
     tie.close
     (tie.spec sized-requires element-copy-out-old nibble-requires element-write-s returns)

@@ -1,10 +1,10 @@
--- `ports::second_set::latch_input` meets its contract. The test picks the case of the definition.
+-- `vt82c42::second_set::latch_input` meets its contract. The test picks the case of the definition.
 -- Assumes nothing.
 use borrow.Author.Needs.{needs}
 use Rattle.machine.proofs.Laws.Changed.{by-rule}
-use Rattle.ports.proofs.second_set.latch_input.Statement.{statement}
-use Rattle.ports.proofs.second_set.latch_input.Tie as tie
-use Rattle.ports.proofs.second_set.latch_inputs.Reads as latch-inputs-reads
+use Rattle.vt82c42.proofs.second_set.latch_input.Statement.{statement}
+use Rattle.vt82c42.proofs.second_set.latch_input.Tie as tie
+use Rattle.vt82c42.proofs.second_set.latch_inputs.Reads as latch-inputs-reads
 
 element-copy-out-old : tie.Need-element-copy-out-old
 element-copy-out-old c = search needs
