@@ -23,11 +23,11 @@ firstOnly c = within 0xA5 0xA6 c
 abbrev pub notInSet : Settings → ℕ → Bool
 notInSet x c = cond (x .secondSet) (firstOnly c) (secondOnly c)
 
--- A command as it acts under the settings of the start: one that mode or set leaves out acts as 00h, which does nothing under any settings
--- (document 02, W3 and W6).
+-- The commands that mode or set leaves out (document 02, W3 and W6).
 abbrev pub leftOut : Settings → ℕ → Bool
 leftOut x c = (x .atMode && ps2Only c) || notInSet x c
 
+-- A command as it acts under the settings of the start: one that is left out acts as 00h, which does nothing under any settings.
 abbrev pub understood : Settings → ℕ → ℕ
 understood x c = cond (leftOut x c) 0 c
 

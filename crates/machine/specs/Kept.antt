@@ -18,6 +18,7 @@ pub record Kept (m : Machine) : Type 0 where
   pub p25 : atMode (m .plain) ≡ false → m .plain .ports .p25 ≡ false
   pub ttim : atMode (m .plain) ≡ false → m .plain .errors .ttim ≡ false
   pub firstSet : secondSet (m .plain) ≡ false → (m .plain .ports .inputLatches ≡ 0x3F) × (m .plain .ports .highAllowed ≡ false)
+  -- P1 has six latches
   pub inputLatches : m .plain .ports .inputLatches < 64
   pub pending : m .plain .host .pending ≤ 7
   -- the cell is 1-31 for code 2, else 0

@@ -11,7 +11,7 @@ use Rattle.machine.specs.State.{Public, Machine, withErrors, withPorts, 
 use Rattle.machine.specs.Lines.{nibble, put, inputPort, keySwitch, inputFull, keyboardOff, mouseOff, keyboardRequest, mouseRequest}
 use Rattle.machine.specs.Lines.{highNibble, outputPort}
 use Rattle.machine.specs.DataPort.{latched}
-use Rattle.machine.specs.SecondSet.{secondOnly}
+use Rattle.machine.specs.SecondSet.{secondOnly, secondCommand}
 use Rattle.machine.specs.Commands.{commandWritten, loadCut, polled, hasCode, codeAsked, acts, writeCommand, testInputs, pulseOf}
 use Rattle.machine.specs.Frames.{errorsSet, notTaken}
 use Rattle.machine.specs.Events.{isWrite, isFrame, endsSending, noRoom, stateRefusal}
@@ -25,9 +25,10 @@ pub record Ps2Rules (m : Machine) : Type 0 where
   pub port : outputPort (m .plain) ≡
       nibble (m .plain .ports .p20) (m .plain .ports .p21) false (mouseOff (m .plain))
       + 16 * nibble (keyboardRequest (m .plain)) (mouseRequest (m .plain)) (keyboardOff (m .plain)) false
-  -- every command acts as itself, and those of the second set do nothing
+  -- every command acts as itself, and those of the second set do nothing; it has no others
   pub command : (c : ℕ) → secondOnly c ≡ false → writeCommand c m ≡ acts c (lift (commandWritten c) (loadCut m))
   pub unknown : (c : ℕ) → secondOnly c ≡ true → writeCommand c m ≡ lift (commandWritten 0) (loadCut m)
+  pub own : (c : ℕ) → secondOnly c ≡ false → secondCommand c (m .plain) ≡ m .plain
   -- A4h, C1h and C2h, D1h, E0h, F0h-FFh
   pub asked : codeAsked m ≡ cond (hasCode m) (lift (put 0xFA) m) (lift (put 0xF1) m)
   pub overlays : (n : ℕ) → polled n (m .plain) ≡ n

@@ -38,7 +38,7 @@ inputLineWritten w on p =
     let n = p .ports .inputLatches in
     inputLatched (cond on (bitOr n w) (bitAnd n (0xFF - w))) p
 
--- The lines that B0h-B7h write 0 to, and B8h-BFh 1: P10-P13, P22, P23, P14, P15.
+-- The lines that B0h-B7h write 0 to, and B8h-BFh 1, by the low three bits: P10-P13, P22, P23, P14, P15.
 unfoldable pub lineWritten : ℕ → Bool → Public → Public
 lineWritten k on p =
     cond (ltb k 4) (inputLineWritten (2 ^ k) on p)

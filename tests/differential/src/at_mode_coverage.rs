@@ -1,8 +1,9 @@
 //! Counts what AT mode does otherwise than PS/2 mode, by what it depends on.
 
 use crate::event::{Event, kind};
+use crate::pending_code::code;
+use crate::tally::Tally;
 use model::{Controller, Pending, Settings, Verdict, judge, mode};
-use std::collections::BTreeMap;
 
 /// The commands that act like unknown ones in AT mode.
 pub const SWITCHED_OFF: [u8; 11] = [
@@ -137,19 +138,6 @@ const LATCHES: [(&str, Latch); 5] = [
     ("P25", |state| state.latch_25),
 ];
 
-fn code(pending: Pending) -> u8 {
-    match pending {
-        Pending::None => 0,
-        Pending::Mode => 1,
-        Pending::Cell(_) => 2,
-        Pending::Password => 3,
-        Pending::OutputPort => 4,
-        Pending::Output => 5,
-        Pending::MouseOutput => 6,
-        Pending::SendToMouse => 7,
-    }
-}
-
 /// A switched-off command and the code that was pending before it.
 type SwitchedOff = (u8, u8);
 
@@ -161,7 +149,7 @@ pub struct AtModeCoverage {
     /// By the latch as it was and as D1h wrote it.
     latches: [[[usize; 2]; 2]; LATCHES.len()],
     /// Straight after the command came a data byte.
-    switched_off: BTreeMap<SwitchedOff, usize>,
+    switched_off: Tally<SwitchedOff>,
     last: Option<SwitchedOff>,
 }
 
@@ -204,7 +192,7 @@ impl AtModeCoverage {
         let last = self.last.take();
         let byte_after_command = step.accepted(kind::WRITE_DATA) && step.before.command_flag;
         if let Some(last) = last.filter(|_| byte_after_command) {
-            *self.switched_off.entry(last).or_default() += 1;
+            self.switched_off.count(last);
         }
         let command = SWITCHED_OFF.into_iter().find(|&off| step.command(off));
         self.last = command.map(|command| (command, code(step.before.pending)));
@@ -251,9 +239,9 @@ impl AtModeCoverage {
         let mut all = Vec::new();
         for command in SWITCHED_OFF {
             for code in CODES {
-                let count = self.switched_off.get(&(command, code)).copied();
+                let count = self.switched_off.of(&(command, code));
                 let what = format!("{command:02X}h over code {code}, then a byte");
-                all.push((count.unwrap_or(0), what));
+                all.push((count, what));
             }
         }
         all
@@ -263,28 +251,24 @@ impl AtModeCoverage {
 #[cfg(test)]
 mod tests {
     use super::*;
+    use crate::counter_checks::{assert_each_once, step};
     use crate::under_settings::{AT_MODE, ORDINARY};
 
     /// The names of what the events reach from fresh, each as often as it came.
     fn reached(settings: Settings, events: &[Event]) -> Vec<String> {
-        let mut state = Controller::fresh(settings);
+        let fresh = Controller::fresh(settings);
         let mut coverage = AtModeCoverage::default();
-        for &event in events {
-            let before = state.clone();
-            let refusal = state.event(event.kind, event.value)[0];
-            coverage.note(&before, event, refusal, &state);
-        }
+        step(fresh, events, |before, event, refusal, after| {
+            coverage.note(before, event, refusal, after);
+        });
         let counts = coverage.reached(settings).into_iter();
         counts.flat_map(|(count, name)| vec![name; count]).collect()
     }
 
     #[test]
     fn each_situation_has_a_name_of_its_own() {
-        let mut all = AtModeCoverage::default().reached(AT_MODE);
-        assert_eq!(all.len(), 16 + 5 * 4 + 5 * 4 + 11 * 4);
-        all.sort();
-        all.dedup();
-        assert_eq!(all.len(), 16 + 5 * 4 + 5 * 4 + 11 * 4);
+        let all = AtModeCoverage::default().reached(AT_MODE);
+        assert_each_once(all, 16 + 5 * 4 + 5 * 4 + 11 * 4);
         assert!(AtModeCoverage::default().reached(ORDINARY).is_empty());
     }
 

@@ -69,6 +69,13 @@ impl Both {
         expected
     }
 
+    /// Events one by one, all of which must be accepted.
+    pub fn accept(&mut self, random: &mut Random, events: &[Event]) {
+        for &event in events {
+            assert_eq!(self.event(random, event)[0], 0, "{event:?}");
+        }
+    }
+
     /// A list; hands back the refusal number.
     pub fn run(&mut self, random: &mut Random, list: &[u8], room: usize) -> u8 {
         let mut answers = vec![0; room];

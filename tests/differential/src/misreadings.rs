@@ -300,6 +300,7 @@ fn takes(list: &mut Counted, effect: Effect, code: &[u8]) -> bool {
 #[cfg(test)]
 mod tests {
     use super::*;
+    use crate::counter_checks::step;
     use crate::few_keys;
     use crate::under_settings::{AT_MODE, ORDINARY};
 
@@ -308,17 +309,16 @@ mod tests {
     const OTHER: u8 = 0x21;
 
     /// The names of the misreadings that the events tell apart from a state.
-    fn told(mut state: Controller, events: &[Event]) -> Vec<&'static str> {
+    fn told(state: Controller, events: &[Event]) -> Vec<&'static str> {
         let mut misreadings = Misreadings::default();
         misreadings.start(&state);
-        for &event in events {
-            let before = state.clone();
-            let refusal = state.event(event.kind, event.value)[0];
-            let happening = Happening::of(&before, event, refusal, &state);
-            let opened = before.locked && !state.locked;
+        let settings = state.settings;
+        step(state, events, |before, event, refusal, after| {
+            let happening = Happening::of(before, event, refusal, after);
+            let opened = before.locked && !after.locked;
             misreadings.note(before.password.bytes(), happening, opened);
-        }
-        let told = misreadings.told(state.settings).into_iter();
+        });
+        let told = misreadings.told(settings).into_iter();
         told.filter(|&(told, _)| told > 0)
             .map(|(_, name)| name)
             .collect()

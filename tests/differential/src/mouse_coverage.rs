@@ -1,9 +1,9 @@
 //! Counts what comes from the mouse by all that the mouse lock depends on.
 
 use crate::event::{Event, kind};
+use crate::tally::Tally;
 use crate::under_settings::locks;
 use model::{Controller, Device, Settings, Verdict, judge, mode};
-use std::collections::BTreeMap;
 
 #[derive(Clone, Copy, Debug, PartialEq, Eq, PartialOrd, Ord)]
 enum Arrival {
@@ -33,7 +33,7 @@ struct Situation {
 
 #[derive(Clone, Debug, Default)]
 pub struct MouseCoverage {
-    counts: BTreeMap<Situation, usize>,
+    counts: Tally<Situation>,
 }
 
 /// What an accepted event is, where it comes from the mouse.
@@ -91,23 +91,20 @@ impl MouseCoverage {
             override_on: before.mode(mode::INHIBIT_OVERRIDE),
             locked: before.locked,
         };
-        *self.counts.entry(situation).or_default() += 1;
+        self.counts.count(situation);
     }
 
     /// How often each situation came that can come under some settings, with
     /// its name.
     pub fn reached(&self, settings: Settings) -> Vec<(usize, String)> {
-        let count = |situation| self.counts.get(situation).copied().unwrap_or(0);
-        situations(settings)
-            .iter()
-            .map(|situation| (count(situation), format!("{situation:?}")))
-            .collect()
+        self.counts.reached(&situations(settings))
     }
 }
 
 #[cfg(test)]
 mod tests {
     use super::*;
+    use crate::counter_checks::assert_each_once;
     use crate::under_settings::MOUSE_LOCK;
 
     fn reached_once(coverage: &MouseCoverage, settings: Settings) -> Vec<String> {
@@ -124,11 +121,7 @@ mod tests {
                 (false, false) => 8 * 4 + 4,
                 (false, true) => 4 * 4 + 4,
             };
-            let mut all = situations(settings);
-            assert_eq!(all.len(), expected);
-            all.sort();
-            all.dedup();
-            assert_eq!(all.len(), expected);
+            assert_each_once(situations(settings), expected);
         }
     }
 

@@ -3,8 +3,9 @@
 
 use crate::event::{Event, kind};
 use crate::latch_writers::{Latch, WRITERS, Writer};
+use crate::pending_code::code;
+use crate::tally::Tally;
 use model::{Controller, Pending, Settings};
-use std::collections::BTreeMap;
 use std::ops::Range;
 
 /// The commands that the second set adds.
@@ -56,22 +57,9 @@ fn lines_of(command: u8) -> Range<u8> {
     }
 }
 
-fn code(pending: Pending) -> u8 {
-    match pending {
-        Pending::None => 0,
-        Pending::Mode => 1,
-        Pending::Cell(_) => 2,
-        Pending::Password => 3,
-        Pending::OutputPort => 4,
-        Pending::Output => 5,
-        Pending::MouseOutput => 6,
-        Pending::SendToMouse => 7,
-    }
-}
-
 #[derive(Clone, Debug, Default)]
 pub struct SecondSetCoverage {
-    counts: BTreeMap<Situation, usize>,
+    counts: Tally<Situation>,
     /// The command that came last, and the code that was pending before it.
     last: Option<(u8, u8)>,
 }
@@ -92,7 +80,7 @@ impl SecondSetCoverage {
     }
 
     fn count(&mut self, situation: Situation) {
-        *self.counts.entry(situation).or_default() += 1;
+        self.counts.count(situation);
     }
 
     fn note_command(&mut self, before: &Controller, command: u8, after: &Controller) {
@@ -170,11 +158,7 @@ impl SecondSetCoverage {
     /// How often each situation came that can come under some settings, with
     /// its name.
     pub fn reached(&self, settings: Settings) -> Vec<(usize, String)> {
-        let count = |situation| self.counts.get(situation).copied().unwrap_or(0);
-        situations(settings)
-            .iter()
-            .map(|situation| (count(situation), format!("{situation:?}")))
-            .collect()
+        self.counts.reached(&situations(settings))
     }
 }
 
@@ -268,21 +252,19 @@ fn followed(settings: Settings) -> Vec<Situation> {
 #[cfg(test)]
 mod tests {
     use super::*;
+    use crate::counter_checks::{assert_each_once, step};
     use crate::under_settings::{ALL, ORDINARY, SECOND_SET, SECOND_SET_IN_AT_MODE};
 
     /// The situations that the events reach from fresh, each as often as it came.
     fn reached(settings: Settings, events: &[Event]) -> Vec<Situation> {
-        let mut state = Controller::fresh(settings);
+        let fresh = Controller::fresh(settings);
         let mut coverage = SecondSetCoverage::default();
-        for &event in events {
-            let before = state.clone();
-            let refusal = state.event(event.kind, event.value)[0];
-            coverage.note(&before, event, refusal, &state);
-        }
+        step(fresh, events, |before, event, refusal, after| {
+            coverage.note(before, event, refusal, after);
+        });
         let asked = situations(settings).into_iter();
-        let counted = |situation: &Situation| coverage.counts.get(situation).copied().unwrap_or(0);
         asked
-            .flat_map(|situation| vec![situation; counted(&situation)])
+            .flat_map(|situation| vec![situation; coverage.counts.of(&situation)])
             .collect()
     }
 
@@ -294,11 +276,7 @@ mod tests {
                 (true, false) => 15 * 4 + 2 * 52 + 2 * 16 + 28 + 16 + 12 + 6 + 4 + 2 * 7,
                 (true, true) => 15 * 4 + 2 * 52 + 2 * 16 + 28 + 3 + 3 * 4,
             };
-            let mut all = situations(settings);
-            assert_eq!(all.len(), expected);
-            all.sort();
-            all.dedup();
-            assert_eq!(all.len(), expected);
+            assert_each_once(situations(settings), expected);
         }
     }
 

@@ -113,6 +113,7 @@ impl SlipCoverage {
 #[cfg(test)]
 mod tests {
     use super::*;
+    use crate::counter_checks::step;
     use crate::few_keys;
     use crate::under_settings::ORDINARY;
 
@@ -122,15 +123,13 @@ mod tests {
 
     /// What the events count from a lock that is shut with 1Eh 1Eh 30h.
     fn counted(events: &[Event]) -> SlipCoverage {
-        let mut state = few_keys::locked(ORDINARY, &[0x1E, 0x1E, 0x30], 0);
+        let state = few_keys::locked(ORDINARY, &[0x1E, 0x1E, 0x30], 0);
         let mut coverage = SlipCoverage::default();
         coverage.start(&state);
-        for &event in events {
-            let before = state.clone();
-            let refusal = state.event(event.kind, event.value)[0];
-            coverage.note(&before, event, refusal, &state);
-            coverage.note_save(&state);
-        }
+        step(state, events, |before, event, refusal, after| {
+            coverage.note(before, event, refusal, after);
+            coverage.note_save(after);
+        });
         coverage
     }
 

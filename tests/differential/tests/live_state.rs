@@ -7,6 +7,7 @@ use differential::images;
 use differential::lists;
 use differential::random::Random;
 use differential::refusals::{self, Refusals};
+use differential::reloads::ORDINARY_REST;
 use differential::rounds::rounds;
 use differential::under_settings::{locks, seed};
 use differential::walks::walk;
@@ -178,7 +179,7 @@ fn what_is_saved_begins_with_the_body_and_is_loaded_again(settings: Settings) {
         let mut other = Both::started(&mut random, settings);
         assert_eq!(other.load(&saved), 0);
         assert_eq!(other.bytes()[..60], both.bytes()[..60]);
-        assert_eq!(other.bytes()[60..], [panel::ORDINARY, 0x3F, 0x03, 0, 0]);
+        assert_eq!(other.bytes()[60..], ORDINARY_REST);
     }
 }
 

@@ -2,11 +2,10 @@
 //! holds nothing.
 
 use differential::both::Both;
-use differential::compare::{self, Room};
 use differential::event::Event;
 use differential::images;
-use differential::lists;
 use differential::random::Random;
+use differential::reloads::{ORDINARY_REST, assert_goes_on_as_a_run, refused_images};
 use differential::rounds::rounds;
 use differential::under_settings::{
     SECOND_SET, SECOND_SET_AND_MOUSE_LOCK, SECOND_SET_IN_AT_MODE,
@@ -23,22 +22,13 @@ const CHOICES: [Settings; 4] = [
 
 const DRAWN_STATES: usize = 400;
 
-/// What stands behind the body of a fresh controller with ordinary settings.
-const ORDINARY_REST: [u8; 5] = [panel::ORDINARY, 0x3F, 0x03, 0, 0];
-
 /// The second set with each of its own parts changed: latches of P10, P13 and
 /// P15 low, D1h allowed, P22 low, the pins of P11 and P14 low.
 fn changed(random: &mut Random, settings: Settings) -> Both {
     let mut both = Both::started(random, settings);
-    for event in [
-        Event::command(0x96),
-        Event::command(0xB7),
-        Event::command(0xC8),
-        Event::command(0xE8),
-        Event::pins(0xED),
-    ] {
-        assert_eq!(both.event(random, event)[0], 0);
-    }
+    let commands = [0x96, 0xB7, 0xC8, 0xE8].map(Event::command);
+    both.accept(random, &commands);
+    both.accept(random, &[Event::pins(0xED)]);
     assert_eq!(both.bytes()[60..], changed_rest(settings));
     both
 }
@@ -94,15 +84,7 @@ fn a_load_goes_on_as_a_run_of_the_image() {
     let mut random = Random::new(153);
     for number in 0..DRAWN_STATES * rounds() {
         let state = images::state(&mut random, CHOICES[number % 4]);
-        let mut both = Both::of(&mut random, &state);
-        let saved = both.save(&mut random, IMAGE_SIZE);
-        let list = lists::unguided(&mut random, 60);
-        let room = Room::enough(&mut random, &list);
-        let written = compare::run_image(&mut random, &saved, &list, room);
-        assert_eq!(both.load(&saved), 0);
-        assert_eq!(both.run(&mut random, &list, list.len() * 3), 0);
-        assert_eq!(both.save(&mut random, IMAGE_SIZE), written.saved);
-        assert_eq!(both.bytes()[60..], ORDINARY_REST);
+        assert_goes_on_as_a_run(&mut random, &state);
     }
 }
 
@@ -116,24 +98,6 @@ fn a_loaded_overlay_is_the_first_sets() {
     assert_eq!(saved[6..8], [1, 0x0E]);
     assert_eq!(both.load(&saved), 0);
     assert_eq!(both.event(&mut random, Event::status())[1], 0xE8);
-}
-
-/// Each byte of the trailer changed, the image cut, and a body rule broken.
-fn refused_images(random: &mut Random) -> Vec<Vec<u8>> {
-    let sound = images::image(random).to_vec();
-    let mut images: Vec<_> = (60..IMAGE_SIZE)
-        .map(|at| {
-            let mut image = sound.clone();
-            image[at] ^= 1;
-            image
-        })
-        .collect();
-    images.push(sound[1..].to_vec());
-    let mut unruly = sound;
-    unruly[28] |= 0x80;
-    images::mend(&mut unruly);
-    images.push(unruly);
-    images
 }
 
 #[test]

@@ -244,15 +244,14 @@ fn every_latch_command_over_every_pattern() {
                 set_latches(&mut state, number % 32);
                 set_input_latches(&mut state, number);
                 let mut both = Both::of(&mut random, &state);
-                for event in [
+                let events = [
                     Event::command(command),
                     Event::command(0xD0),
                     Event::read(),
                     Event::command(0xC0),
                     Event::read(),
-                ] {
-                    assert_eq!(both.event(&mut random, event)[0], 0);
-                }
+                ];
+                both.accept(&mut random, &events);
             }
         }
     }

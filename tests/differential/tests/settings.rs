@@ -7,8 +7,8 @@ use differential::event::{Event, kind};
 use differential::fenced::Fenced;
 use differential::guarded::Guarded;
 use differential::images;
-use differential::lists;
 use differential::random::Random;
+use differential::reloads::{ORDINARY_REST, assert_goes_on_as_a_run, refused_images};
 use differential::under_settings::{ALL, AT_MODE, AT_MODE_AND_MOUSE_LOCK, MOUSE_LOCK};
 use model::{Controller, IMAGE_SIZE, Settings, state_bytes};
 
@@ -71,22 +71,18 @@ fn only_three_bits_of_the_options_change_a_run() {
 
 const IN_AT_MODE: [Settings; 2] = [AT_MODE, AT_MODE_AND_MOUSE_LOCK];
 
-/// What stands behind the body of a fresh controller with ordinary settings.
-const ORDINARY_REST: [u8; 5] = [panel::ORDINARY, 0x3F, 0x03, 0, 0];
-
 /// AT mode with the keyboard on, P20 and P25 high and the other latches low, and
 /// a transmit time-out whose byte has been read.
 fn timed_out(random: &mut Random, settings: Settings) -> Both {
     let mut both = Both::started(random, settings);
-    for event in [
+    let events = [
         Event::command(0xD1),
         Event::data(0x21),
         Event::data(0xED),
         Event::new(kind::BYTE_TIMED_OUT, 0),
         Event::read(),
-    ] {
-        assert_eq!(both.event(random, event)[0], 0);
-    }
+    ];
+    both.accept(random, &events);
     assert_eq!(both.bytes()[60..], rest_in_at_mode(settings));
     both
 }
@@ -149,15 +145,7 @@ fn a_load_goes_on_as_a_run_of_the_image() {
     let mut random = Random::new(100);
     for number in 0..500 {
         let state = images::state(&mut random, IN_AT_MODE[number % 2]);
-        let mut both = Both::of(&mut random, &state);
-        let saved = both.save(&mut random, IMAGE_SIZE);
-        let list = lists::unguided(&mut random, 60);
-        let room = Room::enough(&mut random, &list);
-        let written = compare::run_image(&mut random, &saved, &list, room);
-        assert_eq!(both.load(&saved), 0);
-        assert_eq!(both.run(&mut random, &list, list.len() * 3), 0);
-        assert_eq!(both.save(&mut random, IMAGE_SIZE), written.saved);
-        assert_eq!(both.bytes()[60..], ORDINARY_REST);
+        assert_goes_on_as_a_run(&mut random, &state);
     }
 }
 
@@ -199,23 +187,6 @@ fn a_run_from_an_image_has_no_mouse_lock() {
     };
     let written = compare::run_image(&mut random, &saved, &list, room);
     assert_eq!(written.answers[3] & 0x21, 0x21);
-}
-
-/// Each byte of the trailer changed, and a body rule broken.
-fn refused_images(random: &mut Random) -> Vec<[u8; IMAGE_SIZE]> {
-    let sound = images::image(random);
-    let mut images: Vec<_> = (60..IMAGE_SIZE)
-        .map(|at| {
-            let mut image = sound;
-            image[at] ^= 1;
-            image
-        })
-        .collect();
-    let mut unruly = sound;
-    unruly[3] |= 4;
-    images::mend(&mut unruly);
-    images.push(unruly);
-    images
 }
 
 #[test]

@@ -2,73 +2,14 @@
 
 mod host;
 
+use host::busy::{PENDINGS, SWITCHED_OFF, acts, assert_loads_no_code, assert_unknown, busy};
 use host::{Host, IN_AT_MODE, IN_PS2_MODE};
-use model::{Controller, Device, Password, Pending, Settings, mode};
-
-const SWITCHED_OFF: [u8; 11] = [
-    0xA4, 0xA5, 0xA6, 0xA7, 0xA8, 0xA9, 0xC1, 0xC2, 0xD2, 0xD3, 0xD4,
-];
-
-const PENDINGS: [Pending; 8] = [
-    Pending::None,
-    Pending::Mode,
-    Pending::Cell(31),
-    Pending::Password,
-    Pending::OutputPort,
-    Pending::Output,
-    Pending::MouseOutput,
-    Pending::SendToMouse,
-];
-
-fn password(code: &[u8]) -> Password {
-    let mut password = Password::EMPTY;
-    for &byte in code {
-        password.push(byte);
-    }
-    password
-}
-
-/// A state in which each command has something to change, with the given code
-/// pending. Events make it only in part.
-fn busy(settings: Settings, pending: Pending) -> Host {
-    let mut host = Host::started(settings);
-    host.state.ram = std::array::from_fn(|cell| 0xA0 + cell as u8);
-    host.state.ram[0] = mode::EKI | mode::TRANSLATE | mode::KEYBOARD_OFF | mode::MOUSE_OFF;
-    host.state.pins = 0x5A;
-    host.state.overlay = Some(0x0C);
-    host.state.password = password(&[0x1E, 0x30]);
-    host.state.pending = pending;
-    host
-}
-
-/// What an unknown command leaves.
-fn after_unknown(state: &Controller) -> Controller {
-    let mut after = state.clone();
-    after.command_flag = true;
-    after.overlay = None;
-    after.pending = Pending::None;
-    if state.pending == Pending::Password {
-        after.password = Password::EMPTY;
-    }
-    after
-}
+use model::{Device, Pending, Settings, mode};
 
 #[test]
 fn eleven_commands_act_like_unknown_ones() {
     for settings in IN_AT_MODE {
-        for pending in PENDINGS {
-            for command in SWITCHED_OFF {
-                let mut host = busy(settings, pending);
-                let expected = after_unknown(&host.state);
-                let answer = host.command(command);
-                assert_eq!(host.state, expected, "{command:02X} {pending:?}");
-                assert_eq!((answer.pulse, answer.destination), (0, 0));
-                // The byte after it is for the keyboard.
-                let answer = host.data(0x14);
-                assert_eq!((answer.destination, answer.frame), (1, 0x628));
-                assert!(!host.state.mode(mode::KEYBOARD_OFF));
-            }
-        }
+        assert_unknown(settings, &SWITCHED_OFF);
     }
 }
 
@@ -82,7 +23,7 @@ fn every_other_command_does_the_same_in_both_modes() {
             in_at_mode.command(command);
             in_ps2_mode.command(command);
             let mut state = in_at_mode.state;
-            state.settings = Settings::ORDINARY;
+            state.settings = in_ps2_mode.state.settings;
             // D0h and E0h put what they find, which is another byte here.
             if [0xD0, 0xE0].contains(&command) {
                 assert_ne!(state.output, in_ps2_mode.state.output);
@@ -97,12 +38,7 @@ fn every_other_command_does_the_same_in_both_modes() {
 fn ps2_mode_knows_the_eleven() {
     for settings in IN_PS2_MODE {
         for command in SWITCHED_OFF {
-            let mut host = busy(settings, Pending::None);
-            // So that A7h has something to set and A8h something to clear.
-            host.state.ram[0] ^= if command == 0xA7 { mode::MOUSE_OFF } else { 0 };
-            let unknown = after_unknown(&host.state);
-            host.command(command);
-            assert_ne!(host.state, unknown, "{command:02X}");
+            assert!(acts(settings, command), "{command:02X}");
         }
     }
 }
@@ -110,15 +46,7 @@ fn ps2_mode_knows_the_eleven() {
 #[test]
 fn no_code_is_loaded_from_fresh() {
     for settings in IN_AT_MODE {
-        let mut host = Host::ready_under(settings);
-        host.command(0xA5);
-        assert_eq!(host.data(0x1E).destination, 1);
-        assert_eq!(host.event(1, 0x30).refusal, 3);
-        host.taken();
-        assert_eq!(host.data(0).destination, 1);
-        host.taken();
-        host.command(0xA6);
-        assert!(!host.state.locked && host.state.password.is_empty());
+        let mut host = assert_loads_no_code(settings);
         assert_eq!(host.command(0xA4).status & 0x01, 0);
     }
 }

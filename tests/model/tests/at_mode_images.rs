@@ -2,8 +2,9 @@
 
 mod host;
 
+use host::saved::assert_fresh_is_saved_as_ordinary;
 use host::{Host, IN_AT_MODE};
-use model::{Controller, Settings, load, run_image, save, state_bytes};
+use model::{Settings, run_image, save, state_bytes};
 
 /// Each part that only AT mode has differs from fresh.
 fn changed(settings: Settings) -> Host {
@@ -21,16 +22,9 @@ fn changed(settings: Settings) -> Host {
 #[test]
 fn a_load_gives_ps2_mode_with_fresh_latches_and_no_time_out() {
     for settings in IN_AT_MODE {
-        let host = changed(settings);
-        let image = save(&host.state);
-        let loaded = load(&image).expect("an image");
-        assert_eq!(loaded.settings, Settings::ORDINARY);
-        let bytes = state_bytes(&loaded);
-        assert_eq!(bytes[60..], [0, 0x3F, 0x03, 0, 0]);
-        assert_eq!(bytes[..60], state_bytes(&host.state)[..60]);
+        let loaded = changed(settings).loaded_as_ordinary();
         // P20 is in the body, so its latch is kept.
-        assert_eq!(loaded.lines()[4] & 0x03, 0x01);
-        assert_eq!(save(&loaded), image);
+        assert_eq!(loaded.state.lines()[4] & 0x03, 0x01);
     }
 }
 
@@ -60,10 +54,7 @@ fn a_run_from_an_image_is_in_ps2_mode() {
 
 #[test]
 fn what_at_mode_adds_is_kept_by_no_image() {
-    let fresh = Controller::fresh(Settings::ORDINARY);
     for settings in Settings::ALL {
-        let image = save(&Controller::fresh(settings));
-        assert_eq!(image, save(&fresh));
-        assert_eq!(load(&image), Ok(fresh.clone()));
+        assert_fresh_is_saved_as_ordinary(settings);
     }
 }

@@ -3,8 +3,9 @@
 
 mod host;
 
+use host::busy::{PENDINGS, SWITCHED_OFF, acts, assert_loads_no_code, assert_unknown, busy};
 use host::{FIRST_SET, Host, SECOND_SET, SECOND_SET_IN_AT_MODE, SECOND_SET_IN_PS2_MODE};
-use model::{Controller, Password, Pending, Settings, mode};
+use model::{Pending, Settings, mode};
 
 /// What the second set adds, row by row as its rules name them.
 fn added() -> Vec<u8> {
@@ -16,72 +17,6 @@ fn added() -> Vec<u8> {
     all
 }
 
-/// What AT mode switches off.
-const MOUSE_LOCK_AND_POLLS: [u8; 11] = [
-    0xA4, 0xA5, 0xA6, 0xA7, 0xA8, 0xA9, 0xC1, 0xC2, 0xD2, 0xD3, 0xD4,
-];
-
-const PENDINGS: [Pending; 8] = [
-    Pending::None,
-    Pending::Mode,
-    Pending::Cell(31),
-    Pending::Password,
-    Pending::OutputPort,
-    Pending::Output,
-    Pending::MouseOutput,
-    Pending::SendToMouse,
-];
-
-fn password(code: &[u8]) -> Password {
-    let mut password = Password::EMPTY;
-    for &byte in code {
-        password.push(byte);
-    }
-    password
-}
-
-/// A state in which each command has something to change, with the given code
-/// pending. Events make it only in part.
-fn busy(settings: Settings, pending: Pending) -> Host {
-    let mut host = Host::started(settings.with_version(0xC3));
-    host.state.ram = std::array::from_fn(|cell| 0xA0 + cell as u8);
-    host.state.ram[0] = mode::EKI | mode::TRANSLATE | mode::KEYBOARD_OFF | mode::MOUSE_OFF;
-    host.state.pins = 0x5A;
-    host.state.overlay = Some(0x0C);
-    host.state.password = password(&[0x1E, 0x30]);
-    host.state.pending = pending;
-    if settings.second_set {
-        host.state.latches_1 = 0b10_0101;
-        host.state.latch_22 = false;
-    }
-    host
-}
-
-/// What an unknown command leaves.
-fn after_unknown(state: &Controller) -> Controller {
-    let mut after = state.clone();
-    after.command_flag = true;
-    after.overlay = None;
-    after.pending = Pending::None;
-    if state.pending == Pending::Password {
-        after.password = Password::EMPTY;
-    }
-    after
-}
-
-/// The command leaves just what an unknown one does, and the byte after it is
-/// for the keyboard.
-fn assert_unknown(settings: Settings, pending: Pending, command: u8) {
-    let mut host = busy(settings, pending);
-    let expected = after_unknown(&host.state);
-    let answer = host.command(command);
-    assert_eq!(host.state, expected, "{command:02X} {pending:?}");
-    assert_eq!((answer.pulse, answer.destination), (0, 0));
-    let answer = host.data(0x14);
-    assert_eq!((answer.destination, answer.frame), (1, 0x628));
-    assert!(!host.state.mode(mode::KEYBOARD_OFF));
-}
-
 #[test]
 fn fifty_two_commands_are_added() {
     assert_eq!(added().len(), 16 + 2 + 16 + 3 + 15);
@@ -90,33 +25,21 @@ fn fifty_two_commands_are_added() {
 #[test]
 fn the_first_set_knows_none_of_them() {
     for settings in FIRST_SET {
-        for pending in PENDINGS {
-            for command in added() {
-                assert_unknown(settings, pending, command);
-            }
-        }
+        assert_unknown(settings, &added());
     }
 }
 
 #[test]
 fn neither_mode_of_the_second_set_loads_a_code_or_locks() {
     for settings in SECOND_SET {
-        for pending in PENDINGS {
-            for command in [0xA5, 0xA6] {
-                assert_unknown(settings, pending, command);
-            }
-        }
+        assert_unknown(settings, &[0xA5, 0xA6]);
     }
 }
 
 #[test]
 fn at_mode_switches_off_the_same_eleven_with_the_second_set() {
     for settings in SECOND_SET_IN_AT_MODE {
-        for pending in PENDINGS {
-            for command in MOUSE_LOCK_AND_POLLS {
-                assert_unknown(settings, pending, command);
-            }
-        }
+        assert_unknown(settings, &SWITCHED_OFF);
     }
 }
 
@@ -124,13 +47,9 @@ fn at_mode_switches_off_the_same_eleven_with_the_second_set() {
 #[test]
 fn ps2_mode_knows_the_rest_of_the_eleven() {
     for settings in SECOND_SET_IN_PS2_MODE {
-        for command in MOUSE_LOCK_AND_POLLS {
-            let mut host = busy(settings, Pending::None);
-            host.state.ram[0] ^= if command == 0xA7 { mode::MOUSE_OFF } else { 0 };
-            let unknown = after_unknown(&host.state);
-            host.command(command);
-            let acts = host.state != unknown;
-            assert_eq!(acts, ![0xA5, 0xA6].contains(&command), "{command:02X}");
+        for command in SWITCHED_OFF {
+            let known = ![0xA5, 0xA6].contains(&command);
+            assert_eq!(acts(settings, command), known, "{command:02X}");
         }
     }
 }
@@ -213,13 +132,7 @@ fn the_password_test_finds_none() {
 #[test]
 fn no_code_is_loaded_from_fresh() {
     for settings in SECOND_SET {
-        let mut host = Host::ready_under(settings);
-        host.command(0xA5);
-        assert_eq!(host.data(0x1E).destination, 1);
-        assert_eq!(host.event(1, 0x30).refusal, 3);
-        host.taken();
-        host.command(0xA6);
-        assert!(!host.state.locked && host.state.password.is_empty());
+        assert_loads_no_code(settings);
     }
 }
 

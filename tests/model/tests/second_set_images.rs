@@ -2,8 +2,9 @@
 
 mod host;
 
+use host::saved::assert_fresh_is_saved_as_ordinary;
 use host::{Host, SECOND_SET};
-use model::{Controller, Settings, encode, keeps_body_rules, load, run_image, save, state_bytes};
+use model::{Settings, encode, keeps_body_rules, load, run_image, save, state_bytes};
 
 /// Each part that a body has no place for differs from fresh.
 fn changed(settings: Settings) -> Host {
@@ -25,16 +26,8 @@ fn changed(settings: Settings) -> Host {
 #[test]
 fn a_load_gives_the_ordinary_settings_and_fresh_latches() {
     for settings in SECOND_SET {
-        let host = changed(settings);
-        let image = save(&host.state);
-        let loaded = load(&image).expect("an image");
-        assert_eq!(loaded.settings, Settings::ORDINARY);
-        let bytes = state_bytes(&loaded);
-        assert_eq!(bytes[60..], [0, 0x3F, 0x03, 0, 0]);
-        assert_eq!(bytes[..60], state_bytes(&host.state)[..60]);
-        assert_eq!(save(&loaded), image);
+        let mut loaded = changed(settings).loaded_as_ordinary();
         // The pins are in the body, and no latch stands before them.
-        let mut loaded = Host { state: loaded };
         loaded.command(0xC0);
         assert_eq!(loaded.read().byte, 0xEE);
     }
@@ -42,11 +35,8 @@ fn a_load_gives_the_ordinary_settings_and_fresh_latches() {
 
 #[test]
 fn fresh_ones_are_saved_alike() {
-    let fresh = Controller::fresh(Settings::ORDINARY);
     for settings in SECOND_SET {
-        let image = save(&Controller::fresh(settings.with_version(0x77)));
-        assert_eq!(image, save(&fresh));
-        assert_eq!(load(&image), Ok(fresh.clone()));
+        assert_fresh_is_saved_as_ordinary(settings.with_version(0x77));
     }
 }
 

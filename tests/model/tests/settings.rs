@@ -3,7 +3,7 @@
 mod host;
 
 use host::Host;
-use model::{Controller, Settings, encode, load, run, save, state_bytes};
+use model::{Controller, Settings, encode, run, state_bytes};
 
 #[test]
 fn only_three_bits_of_the_options_count() {
@@ -114,11 +114,7 @@ fn no_event_changes_the_settings() {
 fn an_image_has_no_place_for_the_settings() {
     let mut host = Host::ready_under(Settings::MOUSE_LOCK.with_version(0x42));
     host.pins(0x7F);
-    let saved = save(&host.state);
-    let loaded = load(&saved).expect("an image");
-    assert_eq!(loaded.settings, Settings::ORDINARY);
-    assert_eq!(state_bytes(&loaded)[..60], state_bytes(&host.state)[..60]);
-    assert_eq!(save(&loaded), saved);
+    host.loaded_as_ordinary();
 }
 
 /// The mouse on, the key switch turned, a sound mouse frame.

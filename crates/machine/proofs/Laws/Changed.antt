@@ -238,10 +238,11 @@ pub stored-latched : {s : List ℕ} → length s ≡ stateLength → (v : ℕ) {
     upper ≡ nibble c d false e →
     Changed (lift (latched v)) s (set (set s 3 low) 62 upper)
 stored-latched {s} long v {c = c} {d = d} {e = e} isHigh isAll isC isD isE isLow isUpper =
+    let q = public s .ports in
     let lines : Bool → Bool → Bool → Machine = λ x y z. lift (λ p. highLatched x y z (lowLatched (has v 0) (has v 1) p)) (view s) in
     by-rule (stored-outputLatches long (has v 0) (has v 1) c d e isLow isUpper)
     ((λ i. lines (isC i) (isD i) (isE i))
-    ∙ λ i. lines (cond (isHigh i) (has v 2) (public s .ports .p22)) (cond (isHigh i) (has v 3) (public s .ports .p23)) (cond (isAll i) (has v 5) (public s .ports .p25)))
+    ∙ λ i. lines (cond (isHigh i) (has v 2) (q .p22)) (cond (isHigh i) (has v 3) (q .p23)) (cond (isAll i) (has v 5) (q .p25)))
 
 -- ---- flags: f is the flags' byte with some of them replaced
 abbrev pub Reflagged : List ℕ → ℕ → Flags → Type 0

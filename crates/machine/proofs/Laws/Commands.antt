@@ -10,10 +10,12 @@ use Rattle.translation.specs.Bits.{has}
 use Rattle.translation.proofs.Tests.{split}
 use Rattle.machine.specs.Settings.{Settings}
 use Rattle.machine.specs.State.{Public, Machine, lift}
-use Rattle.machine.specs.Lines.{within, clearBit, atMode, secondSet, inputPort, nibble, put, putCell, keyboardOff, mouseOff, keyboardDisabled, keyboardEnabled, mouseDisabled, mouseEnabled}
+use Rattle.machine.specs.Lines.{within, clearBit, atMode, secondSet, inputPort, nibble, put, putCell, keyboardOff, mouseOff}
+use Rattle.machine.specs.Lines.{keyboardDisabled, keyboardEnabled, mouseDisabled, mouseEnabled}
 use Rattle.machine.specs.DataPort.{dropped}
 use Rattle.machine.specs.SecondSet.{secondOnly, secondCommand}
-use Rattle.machine.specs.Commands.{ps2Only, firstOnly, notInSet, leftOut, understood, polled, commandWritten, loadCut, selfTested, testInputs, testInputsPut}
+use Rattle.machine.specs.Commands.{ps2Only, firstOnly, notInSet, leftOut, understood, polled, commandWritten, loadCut}
+use Rattle.machine.specs.Commands.{selfTested, testInputs, testInputsPut}
 use Rattle.machine.specs.Commands.{outputPortPut, namedCellPut, overlaid}
 use Rattle.machine.specs.Commands.{plainCommand, acts, hasCode, codeAsked, closed, lockedUp, writeCommand, pulseOf}
 use Rattle.machine.proofs.Laws.Cond.{and-false, or-false}

@@ -124,8 +124,15 @@ module _ {m : Machine} (k : Kept m) where
 module _ {m : Machine} (k : Kept m) (unlocked : m .plain .locked ≡ false) (c : ℕ) (known : Known (m .plain .settings) c) where
   pub commandWritten-kept : Kept (lift (commandWritten c) m)
   commandWritten-kept =
-      withHost-kept k _
-      (pendingOf-le c, cellNamed-some c, cellNamed-none c, omega arith, λ _. refl, λ _. refl, λ second e. not-both (ap firstOnly (pendingOf-load c e)) (known .first second))
+      withHost-kept k _ (
+        pendingOf-le c,
+        cellNamed-some c,
+        cellNamed-none c,
+        omega arith,
+        λ _. refl,
+        λ _. refl,
+        λ second e. not-both (ap firstOnly (pendingOf-load c e)) (known .first second),
+      )
       (λ l. not-both l unlocked)
 
   pub acts-kept : (c ≡ 0xA6 → m .plain .host .pending ≡ 0) → m .plain .sending .to ≡ 0 → Kept (acts c m)

@@ -55,8 +55,11 @@ module _ {m : Machine} (k : Kept m) (unlocked : m .plain .locked ≡ false) wher
   pub appended-kept : (v : ℕ) → 1 ≤ v → v < 256 → length (m .secret .code) < 16 → m .plain .host .pending ≡ 3 → Kept (appended v m)
   appended-kept v some byte short loading =
       let c = m .secret .code in
-      withCode-kept k (c ++ v ∷ [])
-      (omega (arith, length-append c (v ∷ [])), getD-append-holds (λ n. (1 ≤ n) × (n < 256)) c v (k .codeBytes) (some, byte), λ second. absurd (k .noLoad second loading))
+      withCode-kept k (c ++ v ∷ []) (
+        omega (arith, length-append c (v ∷ [])),
+        getD-append-holds (λ n. (1 ≤ n) × (n < 256)) c v (k .codeBytes) (some, byte),
+        λ second. absurd (k .noLoad second loading),
+      )
       unlocked
 
 pub sendKeyboard-kept : {m : Machine} → Kept m → m .plain .locked ≡ false → (v : ℕ) → v < 256 → Kept (lift (sendKeyboard v) m)

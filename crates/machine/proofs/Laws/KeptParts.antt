@@ -160,7 +160,8 @@ module _ {m : Machine} (k : Kept m) where
       (λ l. (k .locked l .0, k .locked l .1, nobody l), k .unlocked) (k .version)
 
   -- a lock code is changed only while not locked
-  pub withCode-kept : (c : List ℕ) → CodeKept (m .plain .settings) c → m .plain .locked ≡ false → Kept (withSecret m (record { code = c; position = m .secret .position }))
+  pub withCode-kept : (c : List ℕ) → CodeKept (m .plain .settings) c → m .plain .locked ≡ false →
+      Kept (withSecret m (record { code = c; position = m .secret .position }))
   withCode-kept c new unlocked =
       grouped-kept _ (kept-output k) (kept-errors k) (kept-host k) (kept-ports k) (kept-sending k) (kept-ram k) new
       (λ l. not-both l unlocked, k .unlocked) (k .version)

@@ -1,18 +1,18 @@
 -- The second set's own commands keep the body rules, where they are understood.
 -- Assumes nothing.
 use Prim.Native.Nat.{ℕ, _%_, _-_, _<_}
-use mathlib.Core.Path.{_≡_, refl, ap, _∙_}
-use mathlib.Core.Bool.{Bool, true, false, not, or-true}
+use mathlib.Core.Path.{_≡_, refl, sym, subst, _∙_}
+use mathlib.Core.Bool.{Bool, true, false, not}
 use native.Mathlib.Omega.{arith}
 use lib.Dec.{eqb, leb, ltb}
-use borrow.Author.Tests.{eqb-true, ltb-true}
-use Rattle.translation.specs.Bits.{has}
+use borrow.Author.Tests.{ltb-true}
 use Rattle.translation.proofs.Tests.{split}
 use Rattle.machine.specs.State.{Ports, Machine, lift, withPorts}
 use Rattle.machine.specs.Lines.{within, weight, atMode, secondSet}
 use Rattle.machine.specs.SecondSet.{secondOnly, lineWritten, singleCommand, secondCommand}
 use Rattle.machine.specs.Kept.{Kept}
 use Rattle.machine.proofs.Laws.Cond.{cond-holds, cond-both, not-both}
+use Rattle.machine.proofs.Laws.SecondSet.{second-none}
 use Rattle.machine.proofs.Laws.Bounds.{weight-le, lowLines-below, inputLine-below}
 use Rattle.machine.proofs.Laws.KeptParts.{withPorts-kept}
 use Rattle.machine.proofs.Laws.KeptLines.{KeptWith, put-kept}
@@ -34,17 +34,21 @@ module _ {m : Machine} (k : Kept m) where
         (cond-both P (eqb n 5) (ports-kept _ refl refl (k .inputLatches))
         (ports-kept _ refl refl (inputLine-below _ (n - 2) on (omega arith) (k .inputLatches))))
 
+    own-kept : (c : ℕ) → Kept (lift (secondCommand c) m)
+    unfolding secondCommand singleCommand
+    own-kept c =
+        let P = KeptWith (m .secret) in
+        let low = k .inputLatches in
+        cond-both P (within 0x90 0x9F c) (ports-kept _ refl refl (lowLines-below (m .plain .ports .inputLatches) c low))
+        (cond-both P (within 0xB0 0xBF c) (lineWritten-kept (c % 8) (leb 0xB8 c) (omega arith))
+        (cond-both P (within 0xE1 0xEF c) (ports-kept _ refl refl low)
+        (cond-both P (eqb c 0xA1) (put-kept k _ (k .version))
+        (cond-both P (eqb c 0xAF) (put-kept k _ (k .version))
+        (cond-both P (eqb c 0xC8) (ports-kept _ refl refl low)
+        (cond-both P (eqb c 0xC9) (ports-kept _ refl refl low)
+        (cond-both P (eqb c 0xCA) (put-kept k _ (omega (arith, weight-le 1 (not (atMode (m .plain)))))) k)))))))
+
   pub secondCommand-kept : (c : ℕ) → (secondSet (m .plain) ≡ false → secondOnly c ≡ false) → Kept (lift (secondCommand c) m)
-  unfolding secondCommand singleCommand
   secondCommand-kept c known =
-      let P = KeptWith (m .secret) in
-      let second : secondOnly c ≡ true → secondSet (m .plain) ≡ true = λ own. split (secondSet (m .plain)) (λ t. t) (λ one. not-both own (known one)) in
-      let named : (n : ℕ) → secondOnly n ≡ true → eqb c n ≡ true → secondSet (m .plain) ≡ true = λ n own e. second (ap secondOnly (eqb-true c n e) ∙ own) in
-      cond-holds P (within 0x90 0x9F c) (λ e. ports-kept (second (simp e)) _ refl refl (lowLines-below (m .plain .ports .inputLatches) c (k .inputLatches))) λ _.
-      cond-holds P (within 0xB0 0xBF c) (λ e. lineWritten-kept (second (simp (e, or-true))) (c % 8) (leb 0xB8 c) (omega arith)) λ _.
-      cond-holds P (within 0xE1 0xEF c) (λ e. ports-kept (second (simp (e, or-true))) _ refl refl (k .inputLatches)) λ _.
-      cond-both P (eqb c 0xA1) (put-kept k _ (k .version))
-      (cond-both P (eqb c 0xAF) (put-kept k _ (k .version))
-      (cond-holds P (eqb c 0xC8) (λ e. ports-kept (named 0xC8 refl e) _ refl refl (k .inputLatches)) λ _.
-      cond-holds P (eqb c 0xC9) (λ e. ports-kept (named 0xC9 refl e) _ refl refl (k .inputLatches)) λ _.
-      cond-both P (eqb c 0xCA) (put-kept k _ (omega (arith, weight-le 1 (not (atMode (m .plain)))))) k))
+      split (secondSet (m .plain)) (λ second. own-kept second c)
+      (λ one. subst (KeptWith (m .secret)) (sym (second-none c (m .plain) (known one))) k)

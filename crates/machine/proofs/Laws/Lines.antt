@@ -12,7 +12,8 @@ use borrow.Author.Tests.{eq-eqb, ne-eqb}
 use Rattle.translation.specs.Bits.{bit, has}
 use Rattle.translation.proofs.Tests.{split, equal-below}
 use Rattle.machine.specs.State.{Public, Machine, lift}
-use Rattle.machine.specs.Lines.{weight, nibble, atMode, secondSet, cellOf, override, inputPort, keySwitch, inhibited, mouseInhibited, statusBit5, overlayShown, highNibble}
+use Rattle.machine.specs.Lines.{weight, nibble, atMode, secondSet, cellOf, override, inputPort, keySwitch, inhibited, mouseInhibited}
+use Rattle.machine.specs.Lines.{statusBit5, overlayShown, highNibble}
 use Rattle.machine.specs.Lines.{mouseInterrupt, keyboardInterrupt}
 use Rattle.machine.specs.Lines.{mouseRequest, keyboardRequest, mouseOff, keyboardOff, ps2Port, atPort, outputPort, put, putCell}
 use Rattle.machine.specs.View.{stateLength, public}

@@ -1,7 +1,7 @@
 -- In PS/2 mode with the first command set every rule is document 01's, at each place of every list that runs from fresh. Assumes nothing.
-use mathlib.Core.Path.{_≡_, refl, ap, sym, _∙_}
+use mathlib.Core.Path.{_≡_, ap, sym, _∙_}
 use Prim.Native.Nat.{_<_}
-use mathlib.Core.Bool.{Bool, false, _&&_, and-false, and-true}
+use mathlib.Core.Bool.{Bool, false, and-false, and-true}
 use mathlib.Core.List.{List}
 use Rattle.machine.specs.Settings.{Settings}
 use Rattle.machine.specs.State.{Machine, fresh, withErrors}
@@ -12,6 +12,7 @@ use Rattle.machine.specs.Events.{Event, stateRefusal}
 use Rattle.machine.specs.Run.{after}
 use Rattle.machine.specs.Kept.{Kept}
 use Rattle.machine.specs.Modes.{Ps2Rules}
+use Rattle.machine.proofs.Laws.SecondSet.{second-none}
 use Rattle.machine.proofs.Laws.Kept.{fresh-kept}
 use Rattle.machine.proofs.Laws.Settings.{fresh-settings, after-settings}
 use Rattle.machine.proofs.Laws.Run.{after-kept}
@@ -25,6 +26,7 @@ ps2-rules m k ps2 one =
       port = simp ps2;
       command = λ c first. simp (ps2, one, first);
       unknown = λ c second. simp (ps2, one, second);
+      own = λ c first. second-none c (m .plain) first;
       asked = simp (one, and-true);
       overlays = λ n. simp one;
       latches = λ v. simp (ps2, one);

@@ -1,15 +1,16 @@
 -- Laws of the definitions in specs/SecondSet. Assumes nothing.
-use mathlib.Core.Path.{_≡_, sym, _∙_}
+use mathlib.Core.Path.{_≡_, refl, ap, sym, _∙_}
 use mathlib.Core.Bool.{Bool, true, false}
 use Prim.Native.Nat.{ℕ, _%_, _≤_, _<_}
 use native.Mathlib.Omega.{arith}
-use lib.Dec.{leb}
+use lib.Dec.{eqb, leb}
 use borrow.Author.Tests.{ne-eqb}
-use Rattle.machine.specs.State.{Machine, lift}
+use Rattle.machine.specs.State.{Public, Machine, lift}
 use Rattle.machine.specs.Lines.{within}
 use Rattle.machine.specs.DataPort.{highLatched}
 use Rattle.machine.specs.SecondSet.{inputLineWritten, lowLinesWritten, lineWritten, permitted, outputLinesSet}
-use Rattle.machine.specs.SecondSet.{modePut, versionPut, singleCommand, secondCommand}
+use Rattle.machine.specs.SecondSet.{secondOnly, modePut, versionPut, singleCommand, secondCommand}
+use Rattle.machine.proofs.Laws.Cond.{not-both, or-false}
 
 -- ---- secondCommand, by the tests in its order
 module _ (m : Machine) (c : ℕ) {nine : Bool} (isNine : nine ≡ within 0x90 0x9F c) where
@@ -56,6 +57,17 @@ module _ (m : Machine) (c : ℕ) where
   pub second-other : (c ≡ 0xA1 → ⊥) → (c ≡ 0xAF → ⊥) → (c ≡ 0xC8 → ⊥) → (c ≡ 0xC9 → ⊥) → (c ≡ 0xCA → ⊥) → m ≡ lift (singleCommand c) m
   unfolding singleCommand
   second-other nA1 nAF nC8 nC9 nCA = simp (ne-eqb _ _ nA1, ne-eqb _ _ nAF, ne-eqb _ _ nC8, ne-eqb _ _ nC9, ne-eqb _ _ nCA)
+
+-- a command that is none of the set's own does nothing
+pub second-none : (c : ℕ) (p : Public) → secondOnly c ≡ false → secondCommand c p ≡ p
+unfolding secondCommand singleCommand
+second-none c p none =
+    let (no9, r) = or-false (within 0x90 0x9F c) _ none in
+    let (noB, r) = or-false (within 0xB0 0xBF c) _ r in
+    let (noE, r) = or-false (within 0xE1 0xEF c) _ r in
+    let other : (n : ℕ) → secondOnly n ≡ true → eqb c n ≡ false =
+    λ n own. ne-eqb c n (λ e. not-both (ap secondOnly e ∙ own) none) in
+    simp (no9, noB, noE, other 0xA1 refl, other 0xAF refl, other 0xC8 refl, other 0xC9 refl, other 0xCA refl)
 
 -- ---- lineWritten
 pub low-three : (c : ℕ) → c % 8 < 8

@@ -1,6 +1,9 @@
 //! A host that drives the model; every event must be accepted unless asked.
 #![allow(dead_code)]
 
+pub mod busy;
+pub mod saved;
+
 use model::{Controller, Settings, frame};
 
 /// AT mode with the first set, without and with the mouse lock.

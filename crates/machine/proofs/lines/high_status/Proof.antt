@@ -5,10 +5,6 @@ use borrow.Author.Tests.{eq-eqb, ne-eqb}
 use Rattle.machine.proofs.Laws.Lines.{highNibble-overlay, highNibble-lines}
 use Rattle.machine.proofs.lines.high_status.Statement.{statement}
 use Rattle.machine.proofs.lines.high_status.Tie as tie
-use Rattle.machine.proofs.lines.key_switch.Reads as key-switch-reads
-use Rattle.machine.proofs.lines.overlay_shown.Reads as overlay-shown-reads
-use Rattle.machine.proofs.lines.status_bit_5.Reads as status-bit-5-reads
-use Rattle.machine.proofs.weights.upper.Reads as upper-reads
 
 element-copy-out-if1 : tie.Need-element-copy-out-if1
 element-copy-out-if1 c = search needs

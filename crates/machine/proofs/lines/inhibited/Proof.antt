@@ -4,7 +4,6 @@ use borrow.Author.Needs.{needs}
 use Rattle.machine.proofs.Laws.Lines.{inhibited-switch}
 use Rattle.machine.proofs.lines.inhibited.Statement.{statement}
 use Rattle.machine.proofs.lines.inhibited.Tie as tie
-use Rattle.machine.proofs.lines.key_switch.Reads as key-switch-reads
 
 key-switch-requires : tie.Need-key-switch-requires
 key-switch-requires c κs = search needs

@@ -4,7 +4,6 @@ use borrow.Author.Needs.{needs}
 use Rattle.machine.proofs.Laws.Lines.{inputPort-second, inputPort-first}
 use Rattle.machine.proofs.lines.input_port.Statement.{statement}
 use Rattle.machine.proofs.lines.input_port.Tie as tie
-use Rattle.machine.proofs.lines.second_set.Reads as second-set-reads
 
 second-set-requires : tie.Need-second-set-requires
 second-set-requires c κs = search needs

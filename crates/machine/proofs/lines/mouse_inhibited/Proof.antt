@@ -4,7 +4,6 @@ use borrow.Author.Needs.{needs}
 use Rattle.machine.proofs.Laws.Lines.{mouseInhibited-switch}
 use Rattle.machine.proofs.lines.mouse_inhibited.Statement.{statement}
 use Rattle.machine.proofs.lines.mouse_inhibited.Tie as tie
-use Rattle.machine.proofs.lines.key_switch.Reads as key-switch-reads
 
 element-copy-out-result : tie.Need-element-copy-out-result
 element-copy-out-result c = search needs

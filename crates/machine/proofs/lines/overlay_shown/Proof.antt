@@ -5,9 +5,6 @@ use native.Mathlib.Omega.{arith}
 use Rattle.machine.proofs.Laws.Lines.{overlayShown-second, overlayShown-first}
 use Rattle.machine.proofs.lines.overlay_shown.Statement.{statement}
 use Rattle.machine.proofs.lines.overlay_shown.Tie as tie
-use Rattle.machine.proofs.lines.key_switch.Reads as key-switch-reads
-use Rattle.machine.proofs.lines.second_set.Reads as second-set-reads
-use Rattle.machine.proofs.weights.upper.Reads as upper-reads
 
 second-set-requires : tie.Need-second-set-requires
 second-set-requires c κs = search needs

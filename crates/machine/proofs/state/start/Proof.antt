@@ -4,7 +4,6 @@ use borrow.Author.Needs.{needs}
 use Rattle.machine.proofs.Laws.Body.{fresh-started}
 use Rattle.machine.proofs.state.start.Statement.{statement}
 use Rattle.machine.proofs.state.start.Tie as tie
-use Rattle.machine.proofs.settings.options_of.Reads as options-of-reads
 
 array-write-s : tie.Need-array-write-s
 array-write-s c = search needs

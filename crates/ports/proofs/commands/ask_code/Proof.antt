@@ -5,9 +5,6 @@ use Rattle.machine.proofs.Laws.Changed.{by-rule}
 use Rattle.machine.proofs.Laws.Commands.{codeAsked-some, codeAsked-none}
 use Rattle.ports.proofs.commands.ask_code.Statement.{statement}
 use Rattle.ports.proofs.commands.ask_code.Tie as tie
-use Rattle.machine.proofs.lines.put.Reads as put-reads
-use Rattle.machine.proofs.lines.second_set.Reads as second-set-reads
-use Rattle.ports.proofs.commands.has_code.Reads as has-code-reads
 
 has-code-requires : tie.Need-has-code-requires
 has-code-requires c κs = search needs

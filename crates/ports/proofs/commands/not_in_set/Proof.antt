@@ -4,9 +4,6 @@ use mathlib.Core.Path.{sym, _∙_}
 use borrow.Author.Needs.{needs}
 use Rattle.ports.proofs.commands.not_in_set.Statement.{statement}
 use Rattle.ports.proofs.commands.not_in_set.Tie as tie
-use Rattle.machine.proofs.lines.second_set.Reads as second-set-reads
-use Rattle.vt82c42.proofs.second_set.second_only.Reads as second-only-reads
-use Rattle.machine.proofs.lines.within.Reads as within-reads
 
 second-set-requires : tie.Need-second-set-requires
 second-set-requires c κs = search needs

@@ -8,19 +8,6 @@ use Rattle.machine.proofs.Laws.Commands.{command-C0, command-C1, command-C2, co
 use Rattle.machine.proofs.Laws.Changed.{by-rule}
 use Rattle.ports.proofs.commands.plain_command.Statement.{statement}
 use Rattle.ports.proofs.commands.plain_command.Tie as tie
-use Rattle.machine.proofs.lines.put.Reads as put-reads
-use Rattle.ports.proofs.commands.put_named_cell.Reads as put-named-cell-reads
-use Rattle.ports.proofs.commands.put_output_port.Reads as put-output-port-reads
-use Rattle.ports.proofs.commands.put_pins.Reads as put-pins-reads
-use Rattle.ports.proofs.commands.put_test_inputs.Reads as put-test-inputs-reads
-use Rattle.ports.proofs.commands.self_test.Reads as self-test-reads
-use Rattle.ports.proofs.commands.show_high_pins.Reads as show-high-pins-reads
-use Rattle.ports.proofs.commands.show_low_pins.Reads as show-low-pins-reads
-use Rattle.ports.proofs.mode.disable_keyboard.Reads as disable-keyboard-reads
-use Rattle.ports.proofs.mode.disable_mouse.Reads as disable-mouse-reads
-use Rattle.ports.proofs.mode.enable_keyboard.Reads as enable-keyboard-reads
-use Rattle.ports.proofs.mode.enable_mouse.Reads as enable-mouse-reads
-use Rattle.vt82c42.proofs.second_set.second_command.Reads as second-command-reads
 
 disable-mouse-requires : tie.Need-disable-mouse-requires
 disable-mouse-requires c κs = search needs

@@ -4,7 +4,6 @@ use borrow.Author.Needs.{needs}
 use Rattle.machine.proofs.Laws.Commands.{polled-second, polled-first}
 use Rattle.ports.proofs.commands.polled.Statement.{statement}
 use Rattle.ports.proofs.commands.polled.Tie as tie
-use Rattle.machine.proofs.lines.second_set.Reads as second-set-reads
 
 second-set-requires : tie.Need-second-set-requires
 second-set-requires c κs = search needs

@@ -4,7 +4,6 @@ use mathlib.Core.Bool.{_||_}
 use borrow.Author.Needs.{needs}
 use Rattle.ports.proofs.commands.ps2_only.Statement.{statement}
 use Rattle.ports.proofs.commands.ps2_only.Tie as tie
-use Rattle.machine.proofs.lines.within.Reads as within-reads
 
 within-requires : tie.Need-within-requires
 within-requires c κs = search needs

@@ -4,8 +4,6 @@ use borrow.Author.Needs.{needs}
 use Rattle.machine.proofs.Laws.Changed.{by-rule}
 use Rattle.ports.proofs.commands.put_pins.Statement.{statement}
 use Rattle.ports.proofs.commands.put_pins.Tie as tie
-use Rattle.machine.proofs.lines.input_port.Reads as input-port-reads
-use Rattle.machine.proofs.lines.put.Reads as put-reads
 
 input-port-requires : tie.Need-input-port-requires
 input-port-requires c κs = search needs

@@ -4,9 +4,6 @@ use borrow.Author.Needs.{needs}
 use Rattle.machine.proofs.Laws.Changed.{by-rule}
 use Rattle.ports.proofs.commands.show_low_pins.Statement.{statement}
 use Rattle.ports.proofs.commands.show_low_pins.Tie as tie
-use Rattle.machine.proofs.lines.input_port.Reads as input-port-reads
-use Rattle.ports.proofs.commands.overlay.Reads as overlay-reads
-use Rattle.ports.proofs.commands.polled.Reads as polled-reads
 
 input-port-requires : tie.Need-input-port-requires
 input-port-requires c κs = search needs

@@ -4,9 +4,6 @@ use borrow.Author.Needs.{needs}
 use Rattle.machine.proofs.Laws.Commands.{understood-none, understood-same}
 use Rattle.ports.proofs.commands.understood.Statement.{statement}
 use Rattle.ports.proofs.commands.understood.Tie as tie
-use Rattle.machine.proofs.lines.at_mode.Reads as at-mode-reads
-use Rattle.ports.proofs.commands.ps2_only.Reads as ps2-only-reads
-use Rattle.ports.proofs.commands.not_in_set.Reads as not-in-set-reads
 
 at-mode-requires : tie.Need-at-mode-requires
 at-mode-requires c κs = search needs

@@ -3,9 +3,6 @@
 use borrow.Author.Needs.{needs}
 use Rattle.ports.proofs.data_port.high_writable.Statement.{statement}
 use Rattle.ports.proofs.data_port.high_writable.Tie as tie
-use Rattle.machine.proofs.lines.at_mode.Reads as at-mode-reads
-use Rattle.machine.proofs.lines.second_set.Reads as second-set-reads
-use Rattle.ports.proofs.data_port.either.Reads as either-reads
 
 second-set-requires : tie.Need-second-set-requires
 second-set-requires c κs = search needs

@@ -4,11 +4,6 @@ use borrow.Author.Needs.{needs}
 use Rattle.machine.proofs.Laws.Changed.{stored-latched}
 use Rattle.ports.proofs.data_port.latch.Statement.{statement}
 use Rattle.ports.proofs.data_port.latch.Tie as tie
-use Rattle.machine.proofs.lines.at_mode.Reads as at-mode-reads
-use Rattle.machine.proofs.state.sized.Reads as sized-reads
-use Rattle.machine.proofs.weights.nibble.Reads as nibble-reads
-use Rattle.ports.proofs.data_port.either.Reads as either-reads
-use Rattle.ports.proofs.data_port.high_writable.Reads as high-writable-reads
 
 sized-requires : tie.Need-sized-requires
 sized-requires c κs = search needs

@@ -4,7 +4,6 @@ use borrow.Author.Needs.{needs}
 use Rattle.machine.proofs.Laws.Changed.{by-rule}
 use Rattle.vt82c42.proofs.second_set.latch_input.Statement.{statement}
 use Rattle.vt82c42.proofs.second_set.latch_input.Tie as tie
-use Rattle.vt82c42.proofs.second_set.latch_inputs.Reads as latch-inputs-reads
 
 element-copy-out-old : tie.Need-element-copy-out-old
 element-copy-out-old c = search needs

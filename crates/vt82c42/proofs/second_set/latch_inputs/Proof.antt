@@ -4,7 +4,6 @@ use borrow.Author.Needs.{needs}
 use Rattle.machine.proofs.Laws.Changed.{stored-inputLatches}
 use Rattle.vt82c42.proofs.second_set.latch_inputs.Statement.{statement}
 use Rattle.vt82c42.proofs.second_set.latch_inputs.Tie as tie
-use Rattle.machine.proofs.state.sized.Reads as sized-reads
 
 sized-requires : tie.Need-sized-requires
 sized-requires c κs = search needs

@@ -5,8 +5,6 @@ use borrow.Author.Needs.{needs}
 use Rattle.machine.proofs.Laws.Changed.{by-rule, stored-highLatches}
 use Rattle.vt82c42.proofs.second_set.latch_p23.Statement.{statement}
 use Rattle.vt82c42.proofs.second_set.latch_p23.Tie as tie
-use Rattle.machine.proofs.state.sized.Reads as sized-reads
-use Rattle.machine.proofs.weights.nibble.Reads as nibble-reads
 
 sized-requires : tie.Need-sized-requires
 sized-requires c κs = search needs

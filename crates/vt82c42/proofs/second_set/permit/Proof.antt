@@ -4,8 +4,6 @@ use borrow.Author.Needs.{needs}
 use Rattle.machine.proofs.Laws.Changed.{stored-permitted}
 use Rattle.vt82c42.proofs.second_set.permit.Statement.{statement}
 use Rattle.vt82c42.proofs.second_set.permit.Tie as tie
-use Rattle.machine.proofs.state.sized.Reads as sized-reads
-use Rattle.machine.proofs.weights.nibble.Reads as nibble-reads
 
 sized-requires : tie.Need-sized-requires
 sized-requires c κs = search needs

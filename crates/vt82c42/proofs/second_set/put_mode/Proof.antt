@@ -4,9 +4,6 @@ use borrow.Author.Needs.{needs}
 use Rattle.machine.proofs.Laws.Changed.{by-rule}
 use Rattle.vt82c42.proofs.second_set.put_mode.Statement.{statement}
 use Rattle.vt82c42.proofs.second_set.put_mode.Tie as tie
-use Rattle.machine.proofs.lines.at_mode.Reads as at-mode-reads
-use Rattle.machine.proofs.lines.put.Reads as put-reads
-use Rattle.machine.proofs.weights.weight.Reads as weight-reads
 
 at-mode-requires : tie.Need-at-mode-requires
 at-mode-requires c κs = search needs

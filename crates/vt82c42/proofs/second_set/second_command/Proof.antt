@@ -14,11 +14,6 @@ use Rattle.machine.proofs.Laws.Changed.{by-rule}
 use Rattle.machine.proofs.Laws.SecondSet.{second-9x, second-Bx, second-Ex, second-single}
 use Rattle.vt82c42.proofs.second_set.second_command.Statement.{statement}
 use Rattle.vt82c42.proofs.second_set.second_command.Tie as tie
-use Rattle.vt82c42.proofs.second_set.set_output_lines.Reads as set-output-lines-reads
-use Rattle.vt82c42.proofs.second_set.single_command.Reads as single-command-reads
-use Rattle.machine.proofs.lines.within.Reads as within-reads
-use Rattle.vt82c42.proofs.second_set.write_line.Reads as write-line-reads
-use Rattle.vt82c42.proofs.second_set.write_low_lines.Reads as write-low-lines-reads
 
 kept : {c : ℕ} {s t : List ℕ} → Changed (lift (secondCommand c)) s t → SecondChange c s t
 kept {c} one = record { change = one; kept = λ known k. subst Kept (sym (one .machine)) (secondCommand-kept k c known) }

@@ -5,7 +5,6 @@ use lib.Dec.{eqb}
 use borrow.Author.Needs.{needs}
 use Rattle.vt82c42.proofs.second_set.second_only.Statement.{statement}
 use Rattle.vt82c42.proofs.second_set.second_only.Tie as tie
-use Rattle.machine.proofs.lines.within.Reads as within-reads
 
 within-requires : tie.Need-within-requires
 within-requires c κs = search needs

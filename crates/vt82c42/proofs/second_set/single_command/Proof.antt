@@ -5,9 +5,6 @@ use Rattle.machine.proofs.Laws.Changed.{by-rule, untouched}
 use Rattle.machine.proofs.Laws.SecondSet.{second-A1, second-AF, second-C8, second-C9, second-CA, second-other}
 use Rattle.vt82c42.proofs.second_set.single_command.Statement.{statement}
 use Rattle.vt82c42.proofs.second_set.single_command.Tie as tie
-use Rattle.vt82c42.proofs.second_set.permit.Reads as permit-reads
-use Rattle.vt82c42.proofs.second_set.put_mode.Reads as put-mode-reads
-use Rattle.vt82c42.proofs.second_set.put_version.Reads as put-version-reads
 
 put-version-requires : tie.Need-put-version-requires
 put-version-requires c κs = search needs

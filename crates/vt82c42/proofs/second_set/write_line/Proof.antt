@@ -5,9 +5,6 @@ use Rattle.machine.proofs.Laws.Changed.{by-rule}
 use Rattle.machine.proofs.Laws.SecondSet.{line-0, line-1, line-2, line-3, line-4, line-5, line-6, line-7, low-three}
 use Rattle.vt82c42.proofs.second_set.write_line.Statement.{statement}
 use Rattle.vt82c42.proofs.second_set.write_line.Tie as tie
-use Rattle.vt82c42.proofs.second_set.latch_input.Reads as latch-input-reads
-use Rattle.vt82c42.proofs.second_set.latch_p22.Reads as latch-p22-reads
-use Rattle.vt82c42.proofs.second_set.latch_p23.Reads as latch-p23-reads
 
 latch-input-requires : tie.Need-latch-input-requires
 latch-input-requires c κs = search needs
