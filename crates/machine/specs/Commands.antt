@@ -62,6 +62,16 @@ overlaid n p =
 abbrev pub polled : ℕ → Public → ℕ
 polled n p = cond (secondSet p) (clearBit n 0) n
 
+-- half of P1 over the status
+abbrev pub lowLinesShown : Public → Public
+lowLinesShown p = overlaid (polled (inputPort p % 16) p) p
+
+abbrev pub highLinesShown : Public → Public
+highLinesShown p = overlaid (polled (inputPort p / 16) p) p
+
+abbrev pub inputPortPut : Public → Public
+inputPortPut p = put (inputPort p) p
+
 -- the self-test: both devices on, SYS set, 55h
 abbrev pub selfTested : Public → Public
 selfTested p = put 0x55 (withMode (setBit (clearBit (clearBit (mode p) 4) 5) 2) p)
@@ -92,9 +102,9 @@ plainCommand c p =
     (cond (eqb c 0xAB) (put 0 p)
     (cond (eqb c 0xAD) (keyboardDisabled p)
     (cond (eqb c 0xAE) (keyboardEnabled p)
-    (cond (eqb c 0xC0) (put (inputPort p) p)
-    (cond (eqb c 0xC1) (overlaid (polled (inputPort p % 16) p) p)
-    (cond (eqb c 0xC2) (overlaid (polled (inputPort p / 16) p) p)
+    (cond (eqb c 0xC0) (inputPortPut p)
+    (cond (eqb c 0xC1) (lowLinesShown p)
+    (cond (eqb c 0xC2) (highLinesShown p)
     (cond (eqb c 0xD0) (outputPortPut p)
     (cond (eqb c 0xE0) (testInputsPut p) (secondCommand c p)))))))))))))
 

@@ -34,9 +34,8 @@ use machine::weights::nibble;
 use vt82c42::second_set::second_command;
 use vt82c42::second_set::second_only;
 ghost use mathlib.Core.Path.{_≡_};
-ghost use Prim.Native.Nat.{_/_, _%_};
+ghost use Prim.Native.Nat.{_%_};
 ghost use Rattle.machine.specs.State.{lift};
-ghost use Rattle.machine.specs.Lines as lines;
 ghost use Rattle.machine.specs.Commands as command;
 ghost use Rattle.machine.specs.Events.{event};
 ghost use Rattle.machine.specs.View.{public, view};
@@ -407,33 +406,33 @@ fn put_named_cell(s: &mut State, c: u8)
 }
 
 // The input port put, or half of it shown over the status.
-fn put_pins(s: &mut State)
-    ensures { λ _. ⌜ Changed (lift (λ p. lines.put (lines.inputPort p) p)) (now (s .entry)) (now (s .exit)) ⌝ }
+fn put_input_port(s: &mut State)
+    ensures { λ _. ⌜ Changed (lift command.inputPortPut) (now (s .entry)) (now (s .exit)) ⌝ }
 {
-    let pins = input_port(s);
-    put(s, pins);
+    let port = input_port(s);
+    put(s, port);
 }
 
 // A nibble of the input port as an overlay stores it: with the second set without its bit 0.
 fn polled(s: &State, n: u8) -> u8
     ensures { λ r. ⌜ r ≡ command.polled n (public (now (s .entry))) ⌝ }
 {
-    if second_set(s) { n - n / 1 % 2 * 1 } else { n }
+    if second_set(s) { n - n % 2 } else { n }
 }
 
-fn show_low_pins(s: &mut State)
-    ensures { λ _. ⌜ Changed (lift (λ p. command.overlaid (command.polled (lines.inputPort p % 16) p) p)) (now (s .entry)) (now (s .exit)) ⌝ }
+fn show_low_lines(s: &mut State)
+    ensures { λ _. ⌜ Changed (lift command.lowLinesShown) (now (s .entry)) (now (s .exit)) ⌝ }
 {
-    let pins = input_port(s);
-    let shown = polled(s, pins % 16);
+    let port = input_port(s);
+    let shown = polled(s, port % 16);
     overlay(s, shown);
 }
 
-fn show_high_pins(s: &mut State)
-    ensures { λ _. ⌜ Changed (lift (λ p. command.overlaid (command.polled (lines.inputPort p / 16) p) p)) (now (s .entry)) (now (s .exit)) ⌝ }
+fn show_high_lines(s: &mut State)
+    ensures { λ _. ⌜ Changed (lift command.highLinesShown) (now (s .entry)) (now (s .exit)) ⌝ }
 {
-    let pins = input_port(s);
-    let shown = polled(s, pins / 16);
+    let port = input_port(s);
+    let shown = polled(s, port / 16);
     overlay(s, shown);
 }
 
@@ -450,9 +449,9 @@ fn plain_command(s: &mut State, c: u8)
         0xAB => put(s, 0),
         0xAD => disable_keyboard(s),
         0xAE => enable_keyboard(s),
-        0xC0 => put_pins(s),
-        0xC1 => show_low_pins(s),
-        0xC2 => show_high_pins(s),
+        0xC0 => put_input_port(s),
+        0xC1 => show_low_lines(s),
+        0xC2 => show_high_lines(s),
         0xD0 => put_output_port(s),
         0xE0 => put_test_inputs(s),
         _ => second_command(s, c),

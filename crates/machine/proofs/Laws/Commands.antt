@@ -10,13 +10,13 @@ use Rattle.translation.specs.Bits.{has}
 use Rattle.translation.proofs.Tests.{split}
 use Rattle.machine.specs.Settings.{Settings}
 use Rattle.machine.specs.State.{Public, Machine, lift}
-use Rattle.machine.specs.Lines.{within, clearBit, atMode, secondSet, inputPort, nibble, put, putCell, keyboardOff, mouseOff}
+use Rattle.machine.specs.Lines.{within, clearBit, atMode, secondSet, nibble, put, putCell, keyboardOff, mouseOff}
 use Rattle.machine.specs.Lines.{keyboardDisabled, keyboardEnabled, mouseDisabled, mouseEnabled}
 use Rattle.machine.specs.DataPort.{dropped}
 use Rattle.machine.specs.SecondSet.{secondOnly, secondCommand}
 use Rattle.machine.specs.Commands.{ps2Only, firstOnly, notInSet, leftOut, understood, polled, commandWritten, loadCut}
 use Rattle.machine.specs.Commands.{selfTested, testInputs, testInputsPut}
-use Rattle.machine.specs.Commands.{outputPortPut, namedCellPut, overlaid}
+use Rattle.machine.specs.Commands.{lowLinesShown, highLinesShown, inputPortPut, outputPortPut, namedCellPut}
 use Rattle.machine.specs.Commands.{plainCommand, acts, hasCode, codeAsked, closed, lockedUp, writeCommand, pulseOf}
 use Rattle.machine.proofs.Laws.Cond.{and-false, or-false}
 
@@ -75,8 +75,11 @@ module _ (x : Settings) (c : ℕ) {at′ only other : Bool} (isAt : at′ ≡ x 
 
 -- ---- polled
 module _ (n : ℕ) (p : Public) {second : Bool} (isSecond : second ≡ secondSet p) where
-  pub polled-second : second ≡ true → clearBit n 0 ≡ polled n p
-  polled-second h = simp (sym isSecond ∙ h)
+  pub polled-second : second ≡ true → n - n % 2 ≡ polled n p
+  polled-second h = even ∙ simp (sym isSecond ∙ h)
+    where
+      even : n - n % 2 ≡ clearBit n 0
+      even = omega arith
 
   pub polled-first : second ≡ false → n ≡ polled n p
   polled-first h = simp (sym isSecond ∙ h)
@@ -120,15 +123,15 @@ module _ (m : Machine) (c : ℕ) where
   unfolding plainCommand
   command-AE key = simp key
 
-  pub command-C0 : c ≡ 0xC0 → lift (λ p. put (inputPort p) p) m ≡ lift (plainCommand c) m
+  pub command-C0 : c ≡ 0xC0 → lift inputPortPut m ≡ lift (plainCommand c) m
   unfolding plainCommand
   command-C0 key = simp key
 
-  pub command-C1 : c ≡ 0xC1 → lift (λ p. overlaid (polled (inputPort p % 16) p) p) m ≡ lift (plainCommand c) m
+  pub command-C1 : c ≡ 0xC1 → lift lowLinesShown m ≡ lift (plainCommand c) m
   unfolding plainCommand
   command-C1 key = simp key
 
-  pub command-C2 : c ≡ 0xC2 → lift (λ p. overlaid (polled (inputPort p / 16) p) p) m ≡ lift (plainCommand c) m
+  pub command-C2 : c ≡ 0xC2 → lift highLinesShown m ≡ lift (plainCommand c) m
   unfolding plainCommand
   command-C2 key = simp key
 

@@ -30,14 +30,14 @@ disable-keyboard-requires c κs = search needs
 enable-keyboard-requires : tie.Need-enable-keyboard-requires
 enable-keyboard-requires c κs = search needs
 
-put-pins-requires : tie.Need-put-pins-requires
-put-pins-requires c κs = search needs
+put-input-port-requires : tie.Need-put-input-port-requires
+put-input-port-requires c κs = search needs
 
-show-low-pins-requires : tie.Need-show-low-pins-requires
-show-low-pins-requires c κs = search needs
+show-low-lines-requires : tie.Need-show-low-lines-requires
+show-low-lines-requires c κs = search needs
 
-show-high-pins-requires : tie.Need-show-high-pins-requires
-show-high-pins-requires c κs = search needs
+show-high-lines-requires : tie.Need-show-high-lines-requires
+show-high-lines-requires c κs = search needs
 
 put-output-port-requires : tie.Need-put-output-port-requires
 put-output-port-requires c κs = search needs
@@ -106,9 +106,9 @@ plain-command-spec =
     put-requires-2
     disable-keyboard-requires
     enable-keyboard-requires
-    put-pins-requires
-    show-low-pins-requires
-    show-high-pins-requires
+    put-input-port-requires
+    show-low-lines-requires
+    show-high-lines-requires
     put-output-port-requires
     put-test-inputs-requires
     put-named-cell-requires

@@ -8,9 +8,6 @@ use Rattle.ports.proofs.commands.polled.Tie as tie
 second-set-requires : tie.Need-second-set-requires
 second-set-requires c κs = search needs
 
-mul-result : tie.Need-mul-result
-mul-result c = search needs
-
 sub-result : tie.Need-sub-result
 sub-result c = search needs
 
@@ -21,4 +18,4 @@ returns-2 : tie.Need-returns-2
 returns-2 c = search polled-first
 
 pub polled-spec : {M : Type 1} → statement M
-polled-spec = tie.close (tie.spec second-set-requires mul-result sub-result returns returns-2)
+polled-spec = tie.close (tie.spec second-set-requires sub-result returns returns-2)

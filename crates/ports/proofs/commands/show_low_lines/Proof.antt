@@ -1,9 +1,9 @@
--- `ports::commands::show_high_pins` meets its contract. The nibble that is shown is the one that was made.
+-- `ports::commands::show_low_lines` meets its contract. The nibble that is shown is the one that was made.
 -- Assumes nothing.
 use borrow.Author.Needs.{needs}
 use Rattle.machine.proofs.Laws.Changed.{by-rule}
-use Rattle.ports.proofs.commands.show_high_pins.Statement.{statement}
-use Rattle.ports.proofs.commands.show_high_pins.Tie as tie
+use Rattle.ports.proofs.commands.show_low_lines.Statement.{statement}
+use Rattle.ports.proofs.commands.show_low_lines.Tie as tie
 
 input-port-requires : tie.Need-input-port-requires
 input-port-requires c κs = search needs
@@ -17,6 +17,6 @@ overlay-requires c κs = search needs
 returns : tie.Need-returns
 returns c = by-rule (c .overlay .ensures) (cc)
 
-pub show-high-pins-spec : {M : Type 1} → statement M
-show-high-pins-spec =
+pub show-low-lines-spec : {M : Type 1} → statement M
+show-low-lines-spec =
     tie.close (tie.spec input-port-requires polled-requires overlay-requires returns)
