@@ -14,8 +14,8 @@ use Rattle.image.specs.Rules.{bodyKept}
 unfoldable pub loadRefusal : List ℕ → ℕ
 loadRefusal bytes = cond (ends 1 bodyLength bytes) (cond (bodyKept (found bytes)) 0 11) 10
 
--- A body of edition 1 has no room for the settings and for what AT mode adds: the state has those of an ordinary start behind it (document 02,
--- W1).
+-- A body of edition 1 has no room for the settings and for what AT mode and the second command set add: the state has those of an ordinary start
+-- behind it (document 02, W1).
 abbrev pub stateFrom : List ℕ → List ℕ
 stateFrom b = b ++ beyond (fresh ordinary .plain)
 
