@@ -12,6 +12,7 @@ use machine::settings::ordinary;
 use machine::state::CODE;
 use machine::state::FLAGS;
 use machine::state::HIGH_LATCHES;
+use machine::state::INPUT_LATCHES;
 use machine::state::LATCHES;
 use machine::state::LENGTH;
 use machine::state::OPTIONS;
@@ -20,6 +21,7 @@ use machine::state::PINS;
 use machine::state::RAM;
 use machine::state::State;
 use machine::state::TTIM;
+use machine::state::VERSION;
 use machine::state::start;
 use std::num::wrapping_add_u16;
 
@@ -108,8 +110,10 @@ fn sample(n: u8) -> State {
     s[RAM + 19] = 0x55;
     s[RAM + 31] = 0xFF;
     s[OPTIONS] = 3;
+    s[INPUT_LATCHES] = 0x3F;
     s[HIGH_LATCHES] = 0xA;
     s[TTIM] = 1;
+    s[VERSION] = 0x5A;
     s
 }
 
