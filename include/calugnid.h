@@ -4,14 +4,15 @@
  * A controller is a state of CALUGNID_STATE_BYTES bytes that the caller keeps
  * and lends to each call. The library has no memory of its own, allocates
  * nothing and prints nothing. Make a state by calugnid_start or calugnid_load
- * and change it by calls only. On any other 65 bytes a call still ends and
+ * and change it by calls only. On any other 321 bytes a call still ends and
  * stays inside what it is lent, but its answers promise nothing.
  *
- * Settings, such as mouse lock, AT mode, the command set and the version byte,
- * are named at the start and stand in the state. No event changes them. An image
- * of edition 1 has no room for them, nor for what AT mode and the second command
- * set add: a save leaves them out, and a load gives the ordinary settings, which
- * are those of PS/2 mode with the first command set, and the version byte 0.
+ * Settings, such as mouse lock, AT mode, the command set, the version byte and
+ * the key table, are named at the start and stand in the state. No event changes
+ * them. An image of edition 1 has no room for them, nor for what AT mode and the
+ * second command set add: a save leaves them out, and a load gives the ordinary
+ * settings, which are those of PS/2 mode with the first command set, the version
+ * byte 0 and the built-in key table.
  *
  * What a caller owes:
  * - Pointers to valid memory of the size named, not null even where a length
@@ -50,7 +51,9 @@ extern "C" {
 
 /* Sizes in bytes. */
 enum {
-    CALUGNID_STATE_BYTES = 65,
+    CALUGNID_STATE_BYTES = 321,
+    CALUGNID_TABLE_BYTES = 256, /* a key table, an entry for each byte */
+    CALUGNID_AT_TABLE = 65,     /* where the key table stands in a state */
     CALUGNID_IMAGE_BYTES = 68,
     CALUGNID_EVENT_BYTES = 3,   /* in a list: kind, value low, value high */
     CALUGNID_ANSWER_BYTES = 9,
@@ -104,8 +107,8 @@ enum {
     CALUGNID_PINS = 8            /* the input port P1; FFh */
 };
 
-/* Refusals: 1-6 and 12 of an event, 7-11 of a whole call. 12 is checked
- * straight after 2. */
+/* Refusals: 1-6 and 12 of an event, 7-11 and 13-15 of a whole call. 12 is
+ * checked straight after 2, and 13-15, in this order, before 7. */
 enum {
     CALUGNID_ACCEPTED = 0,
     CALUGNID_BAD_KIND = 1,
@@ -119,7 +122,11 @@ enum {
     CALUGNID_NO_SAVE_ROOM = 9,  /* under 68 bytes to save to */
     CALUGNID_BAD_IMAGE = 10,    /* too short, or mark, edition, distance or sum wrong */
     CALUGNID_BAD_BODY = 11,     /* a body rule broken */
-    CALUGNID_NO_MOUSE = 12      /* a mouse frame in AT mode */
+    CALUGNID_NO_MOUSE = 12,     /* a mouse frame in AT mode */
+    CALUGNID_BAD_TABLE = 13,    /* a key table whose length is not 256 */
+    CALUGNID_BAD_KEYS = 14,     /* not each of 01h-7Fh once in entries 01h-7Fh */
+    CALUGNID_BAD_FIXED = 15     /* entry 00h not FFh, or E0h, E1h, EEh, F0h, FAh
+                                   or FEh not itself */
 };
 
 /* Where each of the nine answer bytes stands. Those from the status on, the
@@ -190,11 +197,18 @@ enum {
     CALUGNID_BREAK_FLAG = 0x200
 };
 
-/* ---- A controller that a board keeps: `state` is 65 bytes, `answer` is 9. */
+/* ---- A controller that a board keeps: `state` is 321 bytes, `answer` is 9. */
 
-/* Makes a fresh controller with the settings that `options` names, and with
- * this version byte. */
+/* Makes a fresh controller with the settings that `options` names, with this
+ * version byte and the built-in key table. */
 void calugnid_start(uint8_t *state, uint8_t options, uint8_t version);
+
+/* The same with a key table of the caller's, which is copied into the state: a
+ * keyboard byte of scan code set 2, but for the break prefix F0h, has its entry
+ * as code of set 1. 0, 13, 14 or 15; refused, the state is as it was, its table
+ * too. */
+uint8_t calugnid_start_with_table(uint8_t *state, uint8_t options, uint8_t version,
+                                  const uint8_t *table, size_t table_length);
 
 /* One event. A refused event leaves the state as it was, and its answer holds
  * the refusal and the unchanged lines. */
@@ -236,9 +250,19 @@ uint8_t calugnid_sent_byte(const uint8_t *state);
 /* ---- Without a state. */
 
 /* Runs a list of events on a fresh controller with the settings that `options`
- * names and this version byte. 0, 7 or 8. */
+ * names, this version byte and the built-in key table. 0, 7 or 8. */
 uint8_t calugnid_run(uint8_t options, uint8_t version, const uint8_t *list, size_t list_length,
                      uint8_t *answers, size_t answers_length);
+
+/* The same with a key table of the caller's. The checks, in their order: 0, 13,
+ * 14, 15, 7 or 8. */
+uint8_t calugnid_run_with_table(uint8_t options, uint8_t version,
+                                const uint8_t *table, size_t table_length,
+                                const uint8_t *list, size_t list_length,
+                                uint8_t *answers, size_t answers_length);
+
+/* The check, 13, 14 or 15, that would refuse a key table, or 0. */
+uint8_t calugnid_table_refusal(const uint8_t *table, size_t table_length);
 
 /* Loads the image at the end of `image`, runs the list with the ordinary
  * settings, and saves to the first 68 bytes of `saved`. All checks come before
@@ -260,8 +284,9 @@ uint16_t calugnid_judge(uint16_t frame);
 /* The eleven-bit frame of a byte. */
 uint16_t calugnid_frame(uint8_t byte);
 
-/* Scan code set 2 to set 1: bits 0-7 the byte, CALUGNID_YIELDS where there is
- * one, CALUGNID_BREAK_FLAG where the break flag is set afterwards. */
+/* Scan code set 2 to set 1 by the built-in key table: bits 0-7 the byte,
+ * CALUGNID_YIELDS where there is one, CALUGNID_BREAK_FLAG where the break flag is
+ * set afterwards. */
 uint16_t calugnid_translate(uint8_t byte, bool break_flag);
 
 #ifdef __cplusplus

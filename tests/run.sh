@@ -46,6 +46,17 @@ for language in c cxx; do
     done
 done
 
+# The table of the keypad with 1 2 3 in its upper row, and one that would be refused.
+for language in c cxx; do
+    prints examples/upper-123.table "$programs/make_table_$language" 6C 69 75 72 7D 7A
+    if "$programs/make_table_$language" 1C E0 > "$programs/printed" 2> "$programs/said"; then
+        echo "a table that is refused was made"
+        exit 1
+    fi
+    cmp "$programs/printed" /dev/null
+    grep -q 'check 14' "$programs/said"
+done
+
 for events in examples/*.events; do
     prints "${events%.events}.expected" by_model printed_list < "$events"
     prints "${events%.events}.expected" bin/panelrun < "$events"

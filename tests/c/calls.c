@@ -90,7 +90,7 @@ static void try_images(void)
 }
 
 /* Fresh whatever the options, which stand in byte 60 less their unused bits, and
- * whatever the version byte, which is the last. */
+ * whatever the version byte, behind which the key table stands. */
 static void try_starts(void)
 {
     uint8_t state[CALUGNID_STATE_BYTES], fresh[CALUGNID_STATE_BYTES] = {0};
@@ -100,6 +100,7 @@ static void try_starts(void)
     fresh[28] = 0x70; /* command byte */
     fresh[61] = 0x3F; /* P10-P15, with the second command set */
     fresh[62] = 3;    /* P22 and P23 */
+    built_in_table(fresh + CALUGNID_AT_TABLE);
     for (unsigned i = 0; i < 256 * 256; i++) {
         uint8_t options = (uint8_t)(i % 256), version = (uint8_t)(i / 256);
 

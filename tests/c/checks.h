@@ -49,4 +49,13 @@ static inline bool puts_byte(uint8_t *state, uint8_t command, uint8_t byte, uint
     return leaves(state, CALUGNID_WRITE_COMMAND, command, 0x19, p2) && reads(state, byte, false);
 }
 
+/* The built-in key table, as calugnid_translate has it. F0h yields nothing there,
+ * and its entry is itself. */
+static inline void built_in_table(uint8_t *table)
+{
+    for (unsigned byte = 0; byte < CALUGNID_TABLE_BYTES; byte++)
+        table[byte] = (uint8_t)calugnid_translate((uint8_t)byte, false);
+    table[0xF0] = 0xF0;
+}
+
 #endif

@@ -17,7 +17,7 @@ pub record EventWritten (s : List ℕ) (e : Event) (space s′ space′ : List �
   pub unchanged : (refusal (public s) e ≡ 0 → ⊥) → s′ ≡ s
   pub kept : Kept (view s) → Kept (view s′)
 
--- A piece of a list. Besides the run: a single event that is refused changes no byte of the state.
-pub record PieceRun (s list space s′ space′ : List ℕ) : Type 0 where
+-- A list. Besides the run: a single event that is refused changes no byte of the state.
+pub record EventsRun (s list space s′ space′ : List ℕ) : Type 0 where
   pub run : FittingRun s list space s′ space′
   pub alone : length list < 6 → (refusal (public s) (first list) ≡ 0 → ⊥) → s′ ≡ s

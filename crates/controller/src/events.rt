@@ -57,16 +57,17 @@ fn write_answer(s: &State, t: Told, answers: &mut [u8])
     requires { ⌜ 9 ≤ length (now answers) ⌝ }
     ensures { λ _. ⌜ now (answers .exit) ≡ (t .refusal ∷ t .read ∷ t .old ∷ events.lines (public (now (s .entry))) (t .pulse)) ++ drop 9 (now (answers .entry)) ⌝ }
 {
-    let frame = sent_frame(s);
     let shown = status(s);
     let port = output_port(s);
+    let to = s[SENT_TO];
+    let frame = sent_frame(s);
     answers[0] = t.refusal;
     answers[1] = t.read;
     answers[2] = t.old;
     answers[3] = shown;
     answers[4] = port;
     answers[5] = t.pulse;
-    answers[6] = s[SENT_TO];
+    answers[6] = to;
     answers[7] = (frame % 256) as u8;
     answers[8] = (frame / 256) as u8;
 }

@@ -1,4 +1,4 @@
-// A list of events: each writes its nine answer bytes and hands on the rest of the answer buffer.
+// A list of events: each writes its nine answer bytes, and the rest of the answer buffer goes to the next.
 use crate::events::respond;
 use machine::settings::Settings;
 use machine::state::State;
@@ -11,15 +11,10 @@ ghost use Rattle.machine.specs.Events.{event};
 ghost use Rattle.machine.specs.Run.{first, lengthRefusal};
 ghost use Rattle.machine.specs.View.{public, named};
 ghost use Rattle.controller.specs.Promises.{EventAnswered, FittingRun, ListRun, FreshRun};
-ghost use Rattle.controller.specs.Steps.{EventWritten, PieceRun};
+ghost use Rattle.controller.specs.Steps.{EventWritten, EventsRun};
 
 // The longest list that a call takes, in bytes.
 const LIST_MOST: usize = 21000;
-
-// A piece of a list, 500 events, and the bytes of its answers.
-const PIECE: usize = 1500;
-
-const PIECE_ANSWERS: usize = 4500;
 
 // The first event of a list, and its answer at the front of the buffer.
 fn run_first(s: &mut State, list: &[u8], answers: &mut [u8])
@@ -29,40 +24,24 @@ fn run_first(s: &mut State, list: &[u8], answers: &mut [u8])
     respond(s, list[0], list[1], list[2], answers);
 }
 
-// A piece of a list, one event at least, as far as the buffer has room. Each event is a level of the recursion.
-fn run_piece(s: &mut State, list: &[u8], answers: &mut [u8])
-    requires { ⌜ (3 ≤ length (now list)) × (9 ≤ length (now answers)) ⌝ }
-    ensures { λ _. ⌜ PieceRun (now (s .entry)) (now (list .entry)) (now (answers .entry)) (now (s .exit)) (now (answers .exit)) ⌝ }
-{
-    run_first(s, list, answers);
-    if list.len() < 6 {
-        return;
-    }
-    if answers.len() < 18 {
-        return;
-    }
-    run_piece(s, &list[3..], &mut answers[9..]); // each event hands on the rest
-}
-
-// A list of any length, as far as the buffer has room: in pieces, so that the stack is never more than one of them needs.
-pub fn run_fitting(s: &mut State, list: &[u8], answers: &mut [u8])
-    ensures { λ _. ⌜ FittingRun (now (s .entry)) (now (list .entry)) (now (answers .entry)) (now (s .exit)) (now (answers .exit)) ⌝ }
+// A list of any length, as far as the buffer has room: each event writes its nine bytes, and the rest of the buffer is lent to the next.
+fn run_events(s: &mut State, list: &[u8], answers: &mut [u8])
+    ensures { λ _. ⌜ EventsRun (now (s .entry)) (now (list .entry)) (now (answers .entry)) (now (s .exit)) (now (answers .exit)) ⌝ }
 {
     let mut done = 0;
     let mut told = 0;
-    while (PIECE <= list.len() - done) & (PIECE_ANSWERS <= answers.len() - told) {
-        let end = done + PIECE;
-        run_piece(s, &list[done..end], &mut answers[told..]);
-        done = end;
-        told += PIECE_ANSWERS;
+    while (3 <= list.len() - done) & (9 <= answers.len() - told) {
+        run_first(s, &list[done..], &mut answers[told..]);
+        done += 3;
+        told += 9;
     }
-    if list.len() - done < 3 {
-        return;
-    }
-    if answers.len() - told < 9 {
-        return;
-    }
-    run_piece(s, &list[done..], &mut answers[told..]);
+}
+
+// A list of any length, as far as the buffer has room.
+pub fn run_fitting(s: &mut State, list: &[u8], answers: &mut [u8])
+    ensures { λ _. ⌜ FittingRun (now (s .entry)) (now (list .entry)) (now (answers .entry)) (now (s .exit)) (now (answers .exit)) ⌝ }
+{
+    run_events(s, list, answers);
 }
 
 // One event from any state, and its nine answer bytes: a list of one.
@@ -70,7 +49,7 @@ pub fn event(s: &mut State, kind: u8, low: u8, high: u8, answer: &mut [u8; 9])
     ensures { λ _. ⌜ EventAnswered (now (s .entry)) (event kind low high) (now (s .exit)) (now (answer .exit)) ⌝ }
 {
     let list = [kind, low, high];
-    run_piece(s, &list, answer);
+    run_events(s, &list, answer);
 }
 
 // What the lines show with no event. An event of no kind is refused, so its answer has the lines as they are.

@@ -2,7 +2,9 @@
 // This file is Rust as well: the generator of the expected output includes it.
 use crate::at_case;
 use crate::case;
+use crate::checked;
 use crate::locked_case;
+use crate::own_table_case;
 use crate::second_at_case;
 use crate::second_case;
 use crate::sized;
@@ -295,5 +297,42 @@ pub fn second_set() {
         b"the first set knows none of these commands",
         b"03A100 03AF00 03CA00 039000 03B000 03B700 03C000 000000 03E200 03B400 03D000 000000 \
         03C800 03D100 010000 03D000 000000 020000",
+    );
+}
+
+// Key tables: the checks of one, and lists run with one.
+pub fn key_table() {
+    checked(b"the built-in table", 0x1C, 0x1E, 256);
+    checked(b"its first 255 entries", 0x1C, 0x1E, 255);
+    checked(b"a byte more", 0x1C, 0x1E, 257);
+    checked(b"no entry", 0x1C, 0x1E, 0);
+    checked(b"1Ch gives what 32h gives", 0x1C, 0x30, 256);
+    checked(b"01h gives 00h", 0x01, 0x00, 256);
+    checked(b"7Fh gives 80h", 0x7F, 0x80, 256);
+    checked(
+        b"255 entries, of which 1Ch gives what 32h gives",
+        0x1C,
+        0x30,
+        255,
+    );
+    checked(b"00h gives 00h", 0x00, 0x00, 256);
+    checked(b"E0h gives E1h", 0xE0, 0xE1, 256);
+    checked(b"E1h gives E0h", 0xE1, 0xE0, 256);
+    checked(b"EEh gives 00h", 0xEE, 0x00, 256);
+    checked(b"F0h gives 70h", 0xF0, 0x70, 256);
+    checked(b"FAh gives FEh", 0xFA, 0xFE, 256);
+    checked(b"FEh gives FAh", 0xFE, 0xFA, 256);
+    checked(b"83h gives 83h", 0x83, 0x83, 256);
+    own_table_case(
+        b"own table: make and break codes of two keys exchanged, 9Dh gives 42h, and F0h is the prefix as ever",
+        b"03AE00 043804 000000 046404 000000 04E007 043804 000000 04E007 046404 000000 043A05 000000 04E007 043A05 000000",
+    );
+    own_table_case(
+        b"own table: untranslated, a key gives itself",
+        b"03AE00 036000 010000 043804 000000 046404 000000 04E007 000000",
+    );
+    own_table_case(
+        b"own table: the lock opens at the keys whose codes are loaded, translated or not",
+        b"03AE00 03A500 011E00 013000 010000 036000 010000 03A600 043804 046404 043804 03A400 046404 000000",
     );
 }

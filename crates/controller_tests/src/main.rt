@@ -6,6 +6,9 @@ use libc::STDOUT_FILENO;
 use machine::settings::Settings;
 use machine::settings::ordinary;
 use machine::settings::settings_of;
+use translation::key_table::built_in;
+use translation::key_table::choose_table;
+use translation::key_table::table_refusal;
 ghost use Prim.Native.Nat.{_*_, _≤_, _<_};
 ghost use lib.ListN.{length};
 
@@ -200,22 +203,57 @@ pub fn case(name: &[u8], events: &[u8]) {
 
 // With the mouse lock.
 pub fn locked_case(name: &[u8], events: &[u8]) {
-    started_case(settings_of(1, 0), name, events);
+    started_case(settings_of(1, 0, built_in()), name, events);
 }
 
 // In AT mode.
 pub fn at_case(name: &[u8], events: &[u8]) {
-    started_case(settings_of(2, 0), name, events);
+    started_case(settings_of(2, 0, built_in()), name, events);
 }
 
 // With the second command set and the version byte 5Ah.
 pub fn second_case(name: &[u8], events: &[u8]) {
-    started_case(settings_of(4, 0x5A), name, events);
+    started_case(settings_of(4, 0x5A, built_in()), name, events);
 }
 
 // The same in AT mode.
 pub fn second_at_case(name: &[u8], events: &[u8]) {
-    started_case(settings_of(6, 0x5A), name, events);
+    started_case(settings_of(6, 0x5A, built_in()), name, events);
+}
+
+// With a key table in which the entries of 1Ch and 32h are exchanged and 9Dh gives 42h.
+pub fn own_table_case(name: &[u8], events: &[u8]) {
+    let mut exchanged = built_in();
+    exchanged[0x1C] = 0x30;
+    exchanged[0x32] = 0x1E;
+    exchanged[0x9D] = 0x42;
+    let chosen = choose_table(built_in(), &exchanged);
+    let table = chosen.table;
+    started_case(settings_of(0, 0, table), name, events);
+}
+
+// The built-in table with one entry changed, and a zero behind it.
+fn changed(at: u8, value: u8) -> [u8; 257] {
+    let own = built_in();
+    let mut table = [0u8; 257];
+    let mut i = 0;
+    while i < 256 {
+        table[i] = own[i];
+        i += 1;
+    }
+    table[at as usize] = value;
+    table
+}
+
+// The check of as many bytes of it.
+pub fn checked(name: &[u8], at: u8, value: u8, length: usize) {
+    let table = changed(at, value);
+    if 257 < length {
+        return;
+    }
+    put(name);
+    put(b": refusal ");
+    put_byte(table_refusal(&table[..length]), b'\n');
 }
 
 fn main() {
@@ -230,4 +268,5 @@ fn main() {
     cases::noise();
     cases::at_mode();
     cases::second_set();
+    cases::key_table();
 }

@@ -8,6 +8,7 @@ use machine::events::Told;
 use machine::events::quiet;
 use machine::events::value;
 use machine::flags::with_breaks;
+use machine::lines::entry;
 use machine::lines::inhibited;
 use machine::lines::locked;
 use machine::lines::put;
@@ -90,12 +91,12 @@ fn breaks(s: &State) -> bool
     s[FLAGS] / 32 % 2 == 1
 }
 
-// Translated where the mode byte says so, and always while locked.
+// Translated, by the key table of the start, where the mode byte says so, and always while locked.
 fn translated(s: &State, byte: u8) -> Translated
     ensures { λ r. ⌜ translation r ≡ frame.translated byte (public (now (s .entry))) ⌝ }
 {
     if translates(s) | locked(s) {
-        translate(byte, breaks(s))
+        translate(entry(s, byte), byte, breaks(s))
     } else {
         raw(byte)
     }

@@ -100,7 +100,7 @@ fn put_code(s: &mut State, n: u8) {
 
 // A state with something in each of its parts, and a lock code of n bytes.
 fn sample(n: u8) -> State {
-    let mut s = [0u8; 65];
+    let mut s = start(ordinary());
     s[OUTPUT] = 0x41;
     s[FLAGS] = flags();
     s[PINS] = 0xA5;

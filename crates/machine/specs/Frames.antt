@@ -4,7 +4,7 @@ use mathlib.Core.Bool.{Bool, true, false, cond, not, _||_}
 use lib.Dec.{eqb}
 use Rattle.translation.specs.Bits.{has}
 use Rattle.translation.specs.Frames.{Check, sound, parity, broken, noise}
-use Rattle.translation.specs.ScanCodes.{Translation, Yielded, nothing, byte, translate, raw, builtIn}
+use Rattle.translation.specs.ScanCodes.{Translation, Yielded, nothing, byte, translate, raw}
 use Rattle.machine.specs.State.{Public, Machine, withErrors, withPorts, withBreaks, withLocked, lift, withSecret}
 use Rattle.machine.specs.Lines.{atMode, put, putMouse, putCell, cellOf, inhibited, mouseInhibited, translates}
 use Rattle.machine.specs.DataPort.{send}
@@ -63,9 +63,9 @@ unfoldable pub keyed : Yielded → Machine → Machine
 keyed nothing m = m
 keyed (byte x) m = keyedByte x m
 
--- A sound keyboard frame clears both errors; its byte is translated if mode bit 6 is set or it is locked.
+-- A sound keyboard frame clears both errors; its byte is translated, by the key table of the start, if mode bit 6 is set or it is locked.
 unfoldable pub translated : ℕ → Public → Translation
-translated b p = cond (translates p || p .locked) (translate builtIn b (p .breaks)) (raw b)
+translated b p = cond (translates p || p .locked) (translate (p .settings .table) b (p .breaks)) (raw b)
 
 unfoldable pub soundKey : ℕ → Machine → Machine
 soundKey b m =

@@ -5,6 +5,7 @@ use mathlib.Core.Bool.{true, false}
 use mathlib.Core.List.{[]}
 use lib.ListN.{length, getD}
 use Rattle.translation.specs.Bits.{has}
+use Rattle.translation.specs.KeyTable.{tableRefusal}
 use Rattle.machine.specs.State.{Machine}
 use Rattle.machine.specs.Lines.{atMode, secondSet, mode}
 
@@ -43,3 +44,6 @@ pub record Kept (m : Machine) : Type 0 where
   -- bit 7 of the mode byte is 0
   pub modeByte : mode (m .plain) < 128
   pub version : m .plain .settings .version < 256
+  -- the key table is one that a start takes, and holds bytes (document 02, W7)
+  pub table : tableRefusal (m .plain .settings .table) ≡ 0
+  pub entries : (b : ℕ) → getD (m .plain .settings .table) b 0 < 256

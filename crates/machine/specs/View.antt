@@ -1,6 +1,6 @@
 -- "Saved image", the body: the first bytes that the program holds its state in are those that an image has of it; the settings of the start
--- and what AT mode and the second command set add stand behind them, in the places that document 02's W9 gives them; the version byte, which no
--- image has, is last. One table, read both ways.
+-- and what AT mode and the second command set add stand behind them, in the places that document 02's W9 gives them; the version byte and the key
+-- table, which no image has, are last. One table, read both ways.
 use Prim.Native.Nat.{ℕ, _+_, _-_, _*_}
 use mathlib.Core.Path.{_≡_}
 use mathlib.Core.Bool.{Bool, false}
@@ -16,7 +16,7 @@ use Rattle.machine.specs.declared.settings.Settings as program
 
 -- how many bytes the state has
 abbrev pub stateLength : ℕ
-stateLength = 65
+stateLength = 321
 
 -- Byte 1: OBF, mouse source, C, TERR, PERR, break, locked in bits 0-6.
 abbrev pub flags : Public → ℕ
@@ -62,7 +62,8 @@ optionsOf x allowed = nibble (x .mouseLock) (x .atMode) (x .secondSet) allowed
 abbrev pub highLatches : Public → ℕ
 highLatches p = nibble (p .ports .p22) (p .ports .p23) false (p .ports .p25)
 
--- What a state has behind those bytes. Byte 61 has the latches of P10-P15, byte 63 the transmit time-out in bit 0, byte 64 is the version byte.
+-- What a state has behind those bytes. Byte 61 has the latches of P10-P15, byte 63 the transmit time-out in bit 0, byte 64 is the version byte, and
+-- the key table stands from byte 65 on.
 abbrev pub beyond : Public → List ℕ
 beyond p =
     optionsOf (p .settings) (p .ports .highAllowed)
@@ -70,7 +71,7 @@ beyond p =
     ∷ highLatches p
     ∷ nibble (p .errors .ttim) false false false
     ∷ p .settings .version
-    ∷ []
+    ∷ p .settings .table
 
 -- The bytes of a machine.
 unfoldable pub stateOf : Machine → List ℕ
@@ -102,7 +103,7 @@ public s =
       breaks = flags .breaks;
       locked = flags .locked;
       ram = at s 28 ∷ take 31 (drop 29 s);
-      settings = settingsOf (at s 60) (at s 64);
+      settings = settingsOf (at s 60) (at s 64) (drop 65 s);
     }
 
 -- the lock code's length is byte 10, and its bytes stand from byte 12 on
@@ -118,4 +119,4 @@ IsState s = s ≡ stateOf (view s)
 
 -- the settings that a caller's struct names
 abbrev pub named : program.Settings → Settings
-named x = record { mouseLock = x .«mouse_lock»; atMode = x .«at_mode»; secondSet = x .«second_set»; version = x .«version» }
+named x = record { mouseLock = x .«mouse_lock»; atMode = x .«at_mode»; secondSet = x .«second_set»; version = x .«version»; table = x .«table» }

@@ -6,7 +6,7 @@ use mathlib.Core.List.{List, [], _∷_, _++_, map}
 use lib.ListN.{getD}
 use lib.Dec.{eqb}
 use Rattle.translation.specs.Frames.{Check, sound, parity, broken, noise, check, frame}
-use Rattle.translation.specs.ScanCodes.{from}
+use Rattle.translation.specs.KeyTable.{from}
 use Rattle.machine.specs.Settings.{ordinary}
 use Rattle.machine.specs.State.{Machine, fresh}
 use Rattle.machine.specs.Lock.{same}

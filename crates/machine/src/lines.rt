@@ -13,6 +13,7 @@ use crate::state::PINS;
 use crate::state::RAM;
 use crate::state::SENT_TO;
 use crate::state::State;
+use crate::state::TABLE;
 use crate::state::TTIM;
 use crate::state::sized;
 use crate::weights::nibble;
@@ -21,6 +22,7 @@ use crate::weights::weight;
 ghost use mathlib.Core.Path.{_≡_};
 ghost use mathlib.Core.Bool.{false};
 ghost use Prim.Native.Nat.{_*_, _≤_};
+ghost use lib.ListN.{getD};
 ghost use Rattle.machine.specs.State.{lift};
 ghost use Rattle.machine.specs.Lines as lines;
 ghost use Rattle.machine.specs.View.{public};
@@ -58,6 +60,15 @@ pub fn cell(s: &State, k: u8) -> u8
     } else {
         0
     }
+}
+
+// The entry of a byte in the key table.
+pub fn entry(s: &State, byte: u8) -> u8
+    ensures { λ r. ⌜ r ≡ getD (public (now (s .entry)) .settings .table) byte 0 ⌝ }
+{
+    sized(*s);
+    let at = TABLE + (byte as usize);
+    s[at]
 }
 
 // The mode byte: cell 0 of the RAM.

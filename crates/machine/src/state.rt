@@ -1,14 +1,16 @@
 // The controller's state: bytes that a run changes in place. The first sixty are those of a saved image's body; the settings and what AT mode
-// and the second command set add stand behind them.
+// and the second command set add stand behind them, the key table last.
 use crate::settings::Settings;
 use crate::settings::options_of;
+use translation::key_table::Table;
 ghost use mathlib.Core.Path.{_≡_};
 ghost use Prim.Native.Nat.{_≤_};
-ghost use lib.ListN.{length};
+ghost use mathlib.Core.List.{_++_};
+ghost use lib.ListN.{length, take};
 ghost use Rattle.machine.specs.State.{fresh};
 ghost use Rattle.machine.specs.View.{stateLength, stateOf, view, named};
 
-pub type State = [u8; 65];
+pub type State = [u8; 321];
 
 // The output byte, which the host reads at port 60h.
 pub const OUTPUT: usize = 0;
@@ -63,6 +65,9 @@ pub const TTIM: usize = 63;
 // The version byte, which no event changes.
 pub const VERSION: usize = 64;
 
+// The key table, which no event changes.
+pub const TABLE: usize = 65;
+
 // The length that the type has, told to the proofs: they do not learn it of an array behind a reference. It compiles to nothing.
 pub fn sized(s: State)
     ensures { λ _. ⌜ length s ≡ stateLength ⌝ }
@@ -77,11 +82,20 @@ pub fn code_length(s: &State) -> u8
     if 16 < n { 16 } else { n }
 }
 
+// The state with this key table.
+fn with_table(s: State, table: Table) -> State
+    ensures { λ r. ⌜ r ≡ take 65 s ++ table ⌝ }
+{
+    let mut tabled = s;
+    bytes::copy(&table, &mut tabled[TABLE..]);
+    tabled
+}
+
 // A controller after power-on.
 pub fn start(settings: Settings) -> State
     ensures { λ r. ⌜ (r ≡ stateOf (fresh (named settings))) × (view r ≡ fresh (named settings)) ⌝ }
 {
-    let mut s = [0u8; 65];
+    let mut s = [0u8; 321];
     s[PINS] = 0xFF;
     s[LATCHES] = 3;
     s[MODE] = 0x70;
@@ -89,5 +103,6 @@ pub fn start(settings: Settings) -> State
     s[INPUT_LATCHES] = 0x3F;
     s[HIGH_LATCHES] = 3;
     s[VERSION] = settings.version;
-    s
+    let table = settings.table;
+    with_table(s, table)
 }

@@ -3,18 +3,20 @@ use controller::run::run_fresh;
 use image::find::body_start;
 use image::run::run_image;
 use machine::settings::settings_of;
+use translation::key_table::built_in;
 ghost use mathlib.Core.Path.{_≡_};
+ghost use Rattle.translation.specs.KeyTable.{builtIn};
 ghost use Rattle.machine.specs.Settings.{settingsOf};
 ghost use Rattle.controller.specs.Promises.{FreshRun};
 ghost use Rattle.image.specs.Find.{bodyStart};
 ghost use Rattle.image.specs.Run.{ImageRun};
 
-// A list run by a controller that is started with the settings that the options name and a version byte: 0, or the number that refuses it.
+// A list run by a controller that is started with the settings that the options name, a version byte and the built-in key table: 0, or the number that refuses it.
 #[no_mangle]
 pub extern "C" fn calugnid_run(options: u8, version: u8, list: &[u8], answers: &mut [u8]) -> u8
-    ensures { λ r. ⌜ FreshRun (settingsOf options version) (now (list .entry)) (now (answers .entry)) (now (answers .exit)) r ⌝ }
+    ensures { λ r. ⌜ FreshRun (settingsOf options version builtIn) (now (list .entry)) (now (answers .entry)) (now (answers .exit)) r ⌝ }
 {
-    run_fresh(settings_of(options, version), list, answers)
+    run_fresh(settings_of(options, version, built_in()), list, answers)
 }
 
 // An image loaded, a list run and the state saved again. Every check comes before the first byte is written.

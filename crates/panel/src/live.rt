@@ -10,7 +10,9 @@ use image::save::save;
 use machine::settings::settings_of;
 use machine::state::State;
 use machine::state::start;
+use translation::key_table::built_in;
 ghost use mathlib.Core.Path.{_≡_};
+ghost use Rattle.translation.specs.KeyTable.{builtIn};
 ghost use Rattle.machine.specs.Settings.{settingsOf};
 ghost use Rattle.machine.specs.State.{fresh};
 ghost use Rattle.machine.specs.Events as events;
@@ -19,12 +21,12 @@ ghost use Rattle.controller.specs.Promises.{EventAnswered, FittingRun, ListRun}
 ghost use Rattle.image.specs.Promises.{Saved, Loaded};
 ghost use Rattle.panel.specs.Values.{eventOf};
 
-// A controller after power-on, with the settings that the options name and a version byte.
+// A controller after power-on, with the settings that the options name, a version byte and the built-in key table.
 #[no_mangle]
 pub extern "C" fn calugnid_start(state: &mut State, options: u8, version: u8)
-    ensures { λ _. ⌜ now (state .exit) ≡ stateOf (fresh (settingsOf options version)) ⌝ }
+    ensures { λ _. ⌜ now (state .exit) ≡ stateOf (fresh (settingsOf options version builtIn)) ⌝ }
 {
-    *state = start(settings_of(options, version));
+    *state = start(settings_of(options, version, built_in()));
 }
 
 // One event, and its nine answer bytes.

@@ -2,11 +2,13 @@
 use translation::frames::Verdict;
 use translation::frames::frame_of;
 use translation::frames::judge;
+use translation::key_table::built_in_entry;
 use translation::scan_codes::Yield;
 use translation::scan_codes::translate;
 ghost use mathlib.Core.Path.{_≡_};
 ghost use Prim.Native.Nat.{_<_, _≤_};
 ghost use Rattle.translation.specs.Frames.{check, frame, verdict};
+ghost use Rattle.translation.specs.KeyTable.{builtIn};
 ghost use Rattle.translation.specs.ScanCodes as codes;
 ghost use Rattle.panel.specs.Numbers.{checkNumber, yieldNumber, flagNumber, translationNumber};
 
@@ -52,12 +54,12 @@ fn flag(breaks: bool) -> u16
     if breaks { 512 } else { 0 }
 }
 
-// A byte of scan code set 2 with the break flag: bits 0-7 the byte of set 1, bit 8 set where there is one, bit 9 the flag after it.
+// A byte of scan code set 2 with the break flag, by the built-in key table: bits 0-7 the byte of set 1, bit 8 set where there is one, bit 9 the flag after it.
 #[no_mangle]
 pub extern "C" fn calugnid_translate(byte: u8, breaks: bool) -> u16
-    ensures { λ r. ⌜ r ≡ translationNumber (codes.translate codes.builtIn byte breaks) ⌝ }
+    ensures { λ r. ⌜ r ≡ translationNumber (codes.translate builtIn byte breaks) ⌝ }
 {
-    let t = translate(byte, breaks);
+    let t = translate(built_in_entry(byte), byte, breaks);
     let yields = t.yields;
     yielded(yields) + flag(t.breaks)
 }

@@ -34,8 +34,10 @@ use machine::weights::nibble;
 use vt82c42::second_set::second_command;
 use vt82c42::second_set::second_only;
 ghost use mathlib.Core.Path.{_≡_};
+ghost use mathlib.Core.Bool.{_&&_};
 ghost use Prim.Native.Nat.{_%_};
 ghost use Rattle.machine.specs.State.{lift};
+ghost use Rattle.machine.specs.Lines.{atMode};
 ghost use Rattle.machine.specs.Commands as command;
 ghost use Rattle.machine.specs.Events.{event};
 ghost use Rattle.machine.specs.View.{public, view};
@@ -515,6 +517,13 @@ fn ps2_only(c: u8) -> bool
     within(0xA4, 0xA9, c) | (within(0xC1, 0xC2, c) | within(0xD2, 0xD4, c))
 }
 
+// A command that the mode of the start has not.
+fn not_in_mode(s: &State, c: u8) -> bool
+    ensures { λ r. ⌜ r ≡ (atMode (public (now (s .entry))) && command.ps2Only c) ⌝ }
+{
+    if at_mode(s) { ps2_only(c) } else { false }
+}
+
 // A command that the set of the start has not. Those that load a lock code and lock are the first set's.
 fn not_in_set(s: &State, c: u8) -> bool
     ensures { λ r. ⌜ r ≡ command.notInSet (public (now (s .entry)) .settings) c ⌝ }
@@ -530,11 +539,10 @@ fn not_in_set(s: &State, c: u8) -> bool
 fn understood(s: &State, c: u8) -> u8
     ensures { λ r. ⌜ r ≡ command.understood (public (now (s .entry)) .settings) c ⌝ }
 {
-    if (at_mode(s) & ps2_only(c)) | not_in_set(s, c) {
-        0
-    } else {
-        c
+    if not_in_mode(s, c) {
+        return 0;
     }
+    if not_in_set(s, c) { 0 } else { c }
 }
 
 // What the command does.

@@ -8,7 +8,8 @@ use mathlib.Core.Option.{some}
 use native.Mathlib.Omega.{arith}
 use lib.Dec.{eqb, lit≤}
 use Rattle.translation.specs.Frames.{check, ones}
-use Rattle.translation.specs.ScanCodes.{translate, builtIn, rows}
+use Rattle.translation.specs.KeyTable.{builtIn, rows}
+use Rattle.translation.specs.ScanCodes.{translate}
 use Rattle.machine.specs.Settings.{Settings}
 use Rattle.machine.specs.State.{fresh}
 use Rattle.machine.specs.Lines.{inputPort, putCell}
@@ -41,7 +42,7 @@ some-injective p = cc
 -- lists from fresh are paired only where they are equal
 module _ (lock : Bool) (version : ℕ) where
   abbrev x : Settings
-  x = record { mouseLock = lock; atMode = false; secondSet = false; version = version }
+  x = record { mouseLock = lock; atMode = false; secondSet = false; version = version; table = builtIn }
 
   differ : (k : ℕ) (e f : Event) → At first k e → At second k f → Allowed (before (fresh x) first k) e f
   unfolding fresh after step refusal stateRefusal accept writeCommand acts loadCut pendingOf plainCommand lockedUp putCell writeData loadByte check ones

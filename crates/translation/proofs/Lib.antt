@@ -1,3 +1,4 @@
 pub mod Tests
 pub mod Frame
+pub mod KeyTable
 pub mod ScanCodes

@@ -2,6 +2,7 @@
 use libc::STDOUT_FILENO;
 use translation::frames;
 use translation::frames::Verdict;
+use translation::key_table::built_in_entry;
 use translation::scan_codes;
 use translation::scan_codes::Yield;
 
@@ -55,7 +56,7 @@ fn put_code(byte: u8, breaks: bool) {
     put_hex(byte);
     put_flag(breaks);
     put(b" ");
-    let after = scan_codes::translate(byte, breaks);
+    let after = scan_codes::translate(built_in_entry(byte), byte, breaks);
     let yields = after.yields;
     match yields {
         Yield::Nothing => put(b"--"),

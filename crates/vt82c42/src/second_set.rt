@@ -24,9 +24,14 @@ ghost use Rattle.vt82c42.specs.Promises.{SecondChange};
 pub fn second_only(c: u8) -> bool
     ensures { λ r. ⌜ r ≡ second.secondOnly c ⌝ }
 {
-    within(0x90, 0x9F, c)
-        | (within(0xB0, 0xBF, c)
-            | (within(0xE1, 0xEF, c) | ((c == 0xA1) | ((c == 0xAF) | within(0xC8, 0xCA, c)))))
+    match c {
+        0x90..=0x9F => true,
+        0xA1 => true,
+        0xAF..=0xBF => true,
+        0xC8..=0xCA => true,
+        0xE1..=0xEF => true,
+        _ => false,
+    }
 }
 
 // The latches of P10-P15.

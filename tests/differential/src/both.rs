@@ -5,6 +5,7 @@ use crate::event::Event;
 use crate::fenced::Fenced;
 use crate::guarded::Guarded;
 use crate::random::Random;
+use crate::starts;
 use model::{ANSWER_SIZE, Controller, EVENT_SIZE, IMAGE_SIZE, STATE_SIZE, Settings, state_bytes};
 use panel::Answer;
 
@@ -17,9 +18,7 @@ impl Both {
     /// A fresh controller, made where any bytes were.
     pub fn started(random: &mut Random, settings: Settings) -> Both {
         let mut both = Both::unmade(random);
-        both.fenced
-            .state_mut()
-            .start(settings.options(), settings.version);
+        starts::start(both.fenced.state_mut(), settings);
         both.model = Controller::fresh(settings);
         both.assert_same("start");
         both
@@ -44,6 +43,23 @@ impl Both {
             model: Controller::fresh(Settings::ORDINARY),
             fenced: Fenced::new(random),
         }
+    }
+
+    /// Starts afresh with a table; hands back the refusal number. A refused start
+    /// leaves whatever bytes there are.
+    pub fn start_with_table(&mut self, settings: Settings, table: &[u8]) -> u8 {
+        let before = self.bytes();
+        let (options, version) = (settings.options(), settings.version);
+        let state = self.fenced.state_mut();
+        let result = state.start_with_table(options, version, table);
+        let refusal = self.model.start_with_table(settings, table);
+        assert_eq!(result, refusal, "refusal of {table:02X?}");
+        if refusal == 0 {
+            self.assert_same("a start with a table");
+        } else {
+            self.fenced.assert_bytes(&before, "a refused start");
+        }
+        refusal
     }
 
     pub fn bytes(&self) -> [u8; STATE_SIZE] {
@@ -143,6 +159,11 @@ impl Both {
         }
         result
     }
+}
+
+/// Starts over bytes that stand for nothing; hands back the refusal number.
+pub fn start_with_table(random: &mut Random, settings: Settings, table: &[u8]) -> u8 {
+    Both::unmade(random).start_with_table(settings, table)
 }
 
 /// Loads over bytes that stand for nothing; hands back the refusal number.

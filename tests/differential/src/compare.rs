@@ -2,6 +2,7 @@
 
 use crate::guarded::Guarded;
 use crate::random::Random;
+use crate::starts;
 use model::{ANSWER_SIZE, EVENT_SIZE, IMAGE_SIZE, Settings};
 
 /// What a run wrote, by the model; empty when it was refused.
@@ -17,12 +18,39 @@ fn answers_size(list: &[u8]) -> usize {
 
 /// Runs a list from fresh in both with an answer buffer of the given size.
 pub fn run(random: &mut Random, settings: Settings, list: &[u8], room: usize) -> Written {
+    let by_model = |answers: &mut [u8]| model::run(settings, list, answers);
+    let by_library = |answers: &mut [u8]| starts::run(settings, list, answers);
+    run_by(random, list, room, by_model, by_library)
+}
+
+/// The same with the bytes of a table, which may be refused.
+pub fn run_with_table(
+    random: &mut Random,
+    settings: Settings,
+    table: &[u8],
+    list: &[u8],
+    room: usize,
+) -> Written {
+    let (options, version) = (settings.options(), settings.version);
+    let by_model = |answers: &mut [u8]| model::run_with_table(settings, table, list, answers);
+    let by_library =
+        |answers: &mut [u8]| panel::run_with_table(options, version, table, list, answers);
+    run_by(random, list, room, by_model, by_library)
+}
+
+fn run_by(
+    random: &mut Random,
+    list: &[u8],
+    room: usize,
+    by_model: impl FnOnce(&mut [u8]) -> u8,
+    by_library: impl FnOnce(&mut [u8]) -> u8,
+) -> Written {
     let mut answers = vec![0; room];
-    let refusal = model::run(settings, list, &mut answers);
+    let refusal = by_model(&mut answers);
     answers.truncate(if refusal == 0 { answers_size(list) } else { 0 });
 
     let mut buffer = Guarded::new(random, room);
-    let result = panel::run(settings.options(), settings.version, list, buffer.inside());
+    let result = by_library(buffer.inside());
     assert_eq!(result, refusal, "refusal of a list");
     buffer.assert_begins(&answers, "answers");
     Written {
@@ -30,6 +58,13 @@ pub fn run(random: &mut Random, settings: Settings, list: &[u8], room: usize) ->
         answers,
         saved: Vec::new(),
     }
+}
+
+/// What refuses the bytes of a table in both.
+pub fn table_refusal(table: &[u8]) -> u8 {
+    let refusal = model::table_refusal(table);
+    assert_eq!(panel::table_refusal(table), refusal, "{table:02X?}");
+    refusal
 }
 
 /// Sizes of the two buffers that a run through images writes.

@@ -118,10 +118,10 @@ impl Coverage {
             self.often(count, 10, &situation);
         }
         for (count, situation) in self.noise.reached(settings) {
-            self.often(count, 30, &situation);
+            self.often(count, 20, &situation);
         }
         for (count, situation) in self.at_mode.reached(settings) {
-            self.often(count, 60, &situation);
+            self.often(count, 40, &situation);
         }
         for (count, situation) in self.second_set.reached(settings) {
             self.often(count, 60, &situation);

@@ -130,13 +130,13 @@ pub fn image(random: &mut Random) -> [u8; IMAGE_SIZE] {
 #[cfg(test)]
 mod tests {
     use super::*;
-    use crate::under_settings::ALL;
+    use crate::under_settings::all;
     use model::keeps_state_rules;
 
     #[test]
     fn drawn_states_keep_the_rules() {
         let mut random = Random::new(8);
-        for settings in ALL {
+        for settings in all() {
             for _ in 0..2_000 {
                 assert!(keeps_state_rules(&state(&mut random, settings)));
             }

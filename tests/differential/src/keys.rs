@@ -1,11 +1,16 @@
 //! Keys to press at a locked controller.
 
 use crate::random::Random;
-use model::{Controller, Counted, cell, entry};
+use model::{Controller, Counted, KeyTable, Settings, cell};
 
-/// The set-2 make code that translates to `code`.
-pub fn key_for(code: u8) -> Option<u8> {
-    (0x01..=0x7F).find(|&key| entry(key) == code)
+/// The set-2 make code that a table translates to `code`.
+pub fn key_for(table: &KeyTable, code: u8) -> Option<u8> {
+    (0x01..=0x7F).find(|&key| table.entry(key) == code)
+}
+
+/// The key that gives a code from 01h to 7Fh under some settings.
+pub fn giving(settings: Settings, code: u8) -> u8 {
+    key_for(&settings.table, code).expect("a code that a key gives")
 }
 
 /// False for a code that the lock ignores.
@@ -25,7 +30,7 @@ fn next_byte(state: &Controller) -> Option<u8> {
 pub fn right_key(state: &Controller) -> Option<u8> {
     let code = next_byte(state)?;
     if counts(state, code) {
-        key_for(code)
+        key_for(&state.settings.table, code)
     } else {
         None
     }
@@ -53,7 +58,7 @@ pub fn slip_key(state: &Controller, random: &mut Random) -> Option<u8> {
     if others.is_empty() {
         None
     } else {
-        key_for(random.pick(&others))
+        key_for(&state.settings.table, random.pick(&others))
     }
 }
 
@@ -70,7 +75,7 @@ pub fn keeping_key(state: &Controller) -> Option<u8> {
     };
     let slips = code.iter().copied().filter(slip);
     let (_, byte) = slips.map(|byte| (kept(byte), byte)).max()?;
-    key_for(byte).filter(|_| kept(byte) > 0)
+    key_for(&state.settings.table, byte).filter(|_| kept(byte) > 0)
 }
 
 /// A key that counts and is none of the code's, so that nothing is kept.
@@ -78,7 +83,8 @@ pub fn foreign_key(state: &Controller, random: &mut Random) -> u8 {
     let code = state.password.bytes();
     loop {
         let key = random.byte_in(0x01..=0x7F);
-        if counts(state, entry(key)) && !code.contains(&entry(key)) {
+        let given = state.settings.table.entry(key);
+        if counts(state, given) && !code.contains(&given) {
             return key;
         }
     }

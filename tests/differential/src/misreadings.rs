@@ -4,7 +4,7 @@
 
 use crate::event::{Event, kind};
 use crate::under_settings::locks;
-use model::{Controller, Counted, Settings, Verdict, cell, entry, judge, translate};
+use model::{Controller, Counted, Settings, Verdict, cell, judge};
 
 /// What an event is to the lock.
 #[derive(Clone, Copy, Debug, PartialEq, Eq)]
@@ -42,7 +42,7 @@ impl Happening {
         }
         match event.kind {
             kind::KEYBOARD_FRAME if refusal == 0 => of_keyboard(before, event.value),
-            kind::KEYBOARD_FRAME => of_refused(event.value),
+            kind::KEYBOARD_FRAME => of_refused(before, event.value),
             kind::MOUSE_FRAME => of_mouse(event.value),
             _ => Happening::Other,
         }
@@ -54,7 +54,7 @@ fn of_keyboard(before: &Controller, frame: u16) -> Happening {
         Verdict::Broken => Happening::Broken,
         Verdict::WrongParity => Happening::WrongParity,
         Verdict::Noise => Happening::Noise,
-        Verdict::Sound(byte) => match translate(byte, before.break_flag) {
+        Verdict::Sound(byte) => match before.settings.table.translate(byte, before.break_flag) {
             (Some(code), _) => of_code(before, code),
             (None, _) => Happening::Other,
         },
@@ -77,9 +77,9 @@ fn of_code(before: &Controller, code: u8) -> Happening {
 }
 
 /// By its low bits, since the value may have been too large for a frame.
-fn of_refused(value: u16) -> Happening {
+fn of_refused(before: &Controller, value: u16) -> Happening {
     match judge(value & 0x7FF) {
-        Verdict::Sound(byte) => Happening::Refused(entry(byte)),
+        Verdict::Sound(byte) => Happening::Refused(before.settings.table.entry(byte)),
         _ => Happening::Other,
     }
 }

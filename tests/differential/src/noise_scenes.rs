@@ -2,6 +2,7 @@
 
 use crate::at_mode_scenes;
 use crate::event::{Event, kind};
+use crate::keys;
 use crate::second_set_scenes;
 use crate::under_settings::locks;
 use model::{Controller, Device, Pending, Settings, mode};
@@ -34,7 +35,7 @@ pub struct Scene {
 
 pub fn scenes(settings: Settings) -> Vec<Scene> {
     let mut all = if settings.at_mode {
-        at_mode_scenes::scenes()
+        at_mode_scenes::scenes(settings)
     } else {
         scenes_in_ps2_mode(settings)
     };
@@ -45,15 +46,16 @@ pub fn scenes(settings: Settings) -> Vec<Scene> {
 }
 
 fn scenes_in_ps2_mode(settings: Settings) -> Vec<Scene> {
-    let mut all = waiting();
-    all.extend(errors());
-    all.extend(breaks());
+    let mut all = waiting(settings);
+    all.extend(errors(settings));
+    all.extend(breaks(settings));
     all.extend(sending());
-    all.extend(off());
+    all.extend(off(settings));
     all.extend([key_turned(settings), byte_to_be_put()]);
     if locks(settings) {
-        all.extend([code_being_loaded(), overlay(), notice()]);
-        all.extend(within_a_code());
+        let of_first_set = [code_being_loaded, overlay, notice];
+        all.extend(of_first_set.map(|scene| scene(settings)));
+        all.extend(within_a_code(settings));
     }
     all
 }
@@ -76,12 +78,17 @@ fn on(events: &[Event]) -> Vec<Event> {
     [&on, events].concat()
 }
 
-/// The key 1Ch and a read of what it gives.
-pub(crate) fn key_and_read() -> Vec<Event> {
-    vec![Event::key(0x1C), Event::read()]
+/// The key that gives a code.
+pub(crate) fn key(settings: Settings, code: u8) -> Event {
+    Event::key(keys::giving(settings, code))
 }
 
-fn waiting() -> Vec<Scene> {
+/// The key that gives 1Eh, and a read of it.
+pub(crate) fn key_and_read(settings: Settings) -> Vec<Event> {
+    vec![key(settings, 0x1E), Event::read()]
+}
+
+fn waiting(settings: Settings) -> Vec<Scene> {
     let scene = |name, event, byte| Scene {
         name,
         before: on(&[event]),
@@ -91,20 +98,20 @@ fn waiting() -> Vec<Scene> {
         reads: vec![[byte, 0]],
     };
     vec![
-        scene("a key waits", Event::key(0x1C), 0x1E),
+        scene("a key waits", key(settings, 0x1E), 0x1E),
         scene("a mouse byte waits", Event::mouse(0x14), 0x14),
         scene("FFh of the keyboard waits", keyboard(BROKEN), 0xFF),
         scene("FFh of the mouse waits", mouse(WRONG_PARITY), 0xFF),
     ]
 }
 
-fn errors() -> Vec<Scene> {
+fn errors(settings: Settings) -> Vec<Scene> {
     let scene = |name, events: &[Event], byte, holds: Holds| Scene {
         name,
         before: [on(events), vec![Event::read()]].concat(),
         holds,
         refusals: [0, 0],
-        next: [vec![Event::status(), Event::read()], key_and_read()].concat(),
+        next: [vec![Event::status(), Event::read()], key_and_read(settings)].concat(),
         reads: vec![[byte, 1], [0x1E, 0]],
     };
     let time_out = [Event::data(0xED), Event::new(kind::BYTE_TIMED_OUT, 0)];
@@ -125,7 +132,7 @@ fn errors() -> Vec<Scene> {
 }
 
 /// F0h has come. The key after it gives a break code.
-fn breaks() -> Vec<Scene> {
+fn breaks(settings: Settings) -> Vec<Scene> {
     let prefix = Event::key(0xF0);
     let turned = Event::pins(TURNED);
     let untranslated = write(0x60, 0);
@@ -134,7 +141,7 @@ fn breaks() -> Vec<Scene> {
         before,
         holds: |state| state.break_flag,
         refusals: [0, 0],
-        next: [first, &key_and_read()].concat(),
+        next: [first, &key_and_read(settings)].concat(),
         reads: vec![[0x9E, 0]],
     };
     vec![
@@ -193,13 +200,13 @@ fn sending() -> Vec<Scene> {
     ]
 }
 
-fn off() -> Vec<Scene> {
+fn off(settings: Settings) -> Vec<Scene> {
     let scene = |name, before: &[Event], refusals| Scene {
         name,
         before: before.to_vec(),
         holds: |state| !state.full && state.sending.is_none(),
         refusals,
-        next: on(&key_and_read()),
+        next: on(&key_and_read(settings)),
         reads: vec![[0x1E, 0]],
     };
     vec![
@@ -209,16 +216,16 @@ fn off() -> Vec<Scene> {
     ]
 }
 
-fn code_being_loaded() -> Scene {
+fn code_being_loaded(settings: Settings) -> Scene {
     let rest_of_code = [Event::data(0x30), Event::data(0), Event::command(0xA6)];
-    let keys = [Event::key(0x1C), Event::key(0x32)];
+    let keys = [key(settings, 0x1E), key(settings, 0x30)];
     Scene {
         name: "a code being loaded",
         before: on(&write(0xA5, 0x1E)),
         holds: |state| state.pending == Pending::Password,
         refusals: [0, 0],
         // The code is whole, so its keys open, and the next key is put.
-        next: [&rest_of_code[..], &keys, &key_and_read()].concat(),
+        next: [&rest_of_code[..], &keys, &key_and_read(settings)].concat(),
         reads: vec![[0x1E, 0]],
     }
 }
@@ -235,13 +242,13 @@ fn byte_to_be_put() -> Scene {
 }
 
 /// The first set's; that of the second is another.
-fn overlay() -> Scene {
+fn overlay(settings: Settings) -> Scene {
     Scene {
         name: "an overlay",
         before: on(&[Event::pins(0xA5), Event::command(0xC1)]),
         holds: |state| state.overlay == Some(5),
         refusals: [0, 0],
-        next: [vec![Event::status()], key_and_read()].concat(),
+        next: [vec![Event::status()], key_and_read(settings)].concat(),
         reads: vec![[0x1E, 0]],
     }
 }
@@ -260,14 +267,14 @@ fn lock() -> Vec<Event> {
 }
 
 /// The first two keys have come, so that the third opens.
-fn within_a_code() -> Vec<Scene> {
-    let keys = [Event::key(0x1C), Event::key(0x32)];
+fn within_a_code(settings: Settings) -> Vec<Scene> {
+    let keys = [key(settings, 0x1E), key(settings, 0x30)];
     let scene = |name, mode, then: &[Event], holds: Holds, next: &[Event]| Scene {
         name,
         before: [&write(0x60, mode)[..], &lock(), &keys, then].concat(),
         holds,
         refusals: [0, 0],
-        next: [next, &[Event::key(0x21), Event::read()]].concat(),
+        next: [next, &[key(settings, 0x2E), Event::read()]].concat(),
         reads: vec![[OPENED, 0]],
     };
     let turned = [Event::pins(TURNED)];
@@ -302,7 +309,7 @@ fn within_a_code() -> Vec<Scene> {
             &[Event::key(0xF0)],
             |state| within(state) && state.break_flag,
             // A break code is ignored.
-            &[Event::key(0x1C)],
+            &[key(settings, 0x1E)],
         ),
         scene(
             "within a code, inhibited",
@@ -351,8 +358,12 @@ fn key_turned(settings: Settings) -> Scene {
     }
 }
 
-fn notice() -> Scene {
-    let keys = [Event::key(0x1C), Event::key(0x32), Event::key(0x21)];
+fn notice(settings: Settings) -> Scene {
+    let keys = [
+        key(settings, 0x1E),
+        key(settings, 0x30),
+        key(settings, 0x2E),
+    ];
     Scene {
         name: "locked, its notice waits",
         before: on(&[&write(0x73, 0xC3)[..], &lock()].concat()),

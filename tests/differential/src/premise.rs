@@ -60,6 +60,7 @@ pub fn comparable_from(state: &Controller, first: &[u8], second: &[u8]) -> bool 
 mod tests {
     use super::*;
     use crate::few_keys;
+    use crate::keys;
     use crate::under_settings::{MOUSE_LOCK, ORDINARY, locks};
     use model::mode;
 
@@ -85,13 +86,14 @@ mod tests {
     fn secrets_may_differ_where_the_lock_opens_alike(settings: Settings) {
         let pair = |one: &[u8], other: &[u8]| comparable(settings, one, other);
         let loads = locks(settings);
-        let opened = list([0x1E, 0x30], [0x1C, 0x32]);
+        let [a, b] = [0x1E, 0x30].map(|code| keys::giving(settings, code));
+        let opened = list([0x1E, 0x30], [a, b]);
         assert!(pair(&opened, &opened));
-        let other_opened = list([0x30, 0x1E], [0x32, 0x1C]);
+        let other_opened = list([0x30, 0x1E], [b, a]);
         assert_eq!(pair(&opened, &other_opened), loads);
-        assert!(!pair(&opened, &list([0x1E, 0x30], [0x1C, 0x1C])));
-        assert!(!pair(&opened, &list([0x30, 0x30], [0x1C, 0x32])));
-        let shut = [list([1, 2], [3, 4]), list([0xFF, 0x80], [0x7F, 1])];
+        assert!(!pair(&opened, &list([0x1E, 0x30], [a, a])));
+        assert!(!pair(&opened, &list([0x30, 0x30], [a, b])));
+        let shut = [list([1, 2], [a, b]), list([0xFF, 0x80], [0x7F, 1])];
         assert_eq!(pair(&shut[0], &shut[1]), loads);
     }
 
@@ -114,7 +116,8 @@ mod tests {
         state.password.push(0x1E);
         state.locked = true;
         let list = |key| Event::key(key).to_bytes();
-        let [right, wrong, other] = [0x1C, 0x32, 0x21].map(list);
+        let keys = [0x1E, 0x30, 0x2E].map(|code| keys::giving(settings, code));
+        let [right, wrong, other] = keys.map(list);
         assert!(comparable_from(&state, &wrong, &other));
         assert!(comparable_from(&state, &right, &right));
         assert!(!comparable_from(&state, &wrong, &right));
@@ -157,7 +160,7 @@ mod tests {
 
     /// From a lock that is shut within its code, under all settings.
     fn slips_move_no_opening_from_a_locked_state(settings: Settings) {
-        let [a, b, other] = [0x1C, 0x32, 0x21];
+        let [a, b, other] = [0x1E, 0x30, 0x2E].map(|code| keys::giving(settings, code));
         let list = |keys: &[u8]| -> Vec<u8> {
             let keys = keys.iter().map(|&key| Event::key(key));
             keys.flat_map(Event::to_bytes).collect()
@@ -233,18 +236,19 @@ mod tests {
             list.extend(last);
             list
         };
-        let opened = noisy([0x1E, 0x30], [0x1C, 0x32], 0x629);
-        let same_noise = noisy([0x30, 0x1E], [0x32, 0x1C], 0x629);
+        let [a, b] = [0x1E, 0x30].map(|code| keys::giving(settings, code));
+        let opened = noisy([0x1E, 0x30], [a, b], 0x629);
+        let same_noise = noisy([0x30, 0x1E], [b, a], 0x629);
         let comparable_codes = comparable(settings, &opened, &same_noise);
         assert_eq!(comparable_codes, locks(settings));
         for value in noise_values().filter(|&value| value != 0x629) {
-            let other_noise = noisy([0x30, 0x1E], [0x32, 0x1C], value);
+            let other_noise = noisy([0x30, 0x1E], [b, a], value);
             assert!(!comparable(settings, &opened, &other_noise), "{value:03X}");
         }
         // Damage in its place has the first list's lock stay shut.
-        let damaged = noisy([0x30, 0x1E], [0x32, 0x1C], 0x428);
+        let damaged = noisy([0x30, 0x1E], [b, a], 0x428);
         assert!(!comparable(settings, &opened, &damaged));
-        let wrong = noisy([0x30, 0x1E], [0x32, 0x32], 0x629);
+        let wrong = noisy([0x30, 0x1E], [b, b], 0x629);
         assert!(!comparable(settings, &opened, &wrong));
     }
 

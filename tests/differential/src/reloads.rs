@@ -5,10 +5,17 @@ use crate::compare::{self, Room};
 use crate::images;
 use crate::lists;
 use crate::random::Random;
-use model::{Controller, IMAGE_SIZE};
+use model::{Controller, IMAGE_SIZE, KeyTable};
 
-/// What stands behind the body of a fresh controller with ordinary settings.
-pub const ORDINARY_REST: [u8; 5] = [panel::ORDINARY, 0x3F, 0x03, 0, 0];
+/// What stands behind a body: five bytes and the key table.
+pub fn rest(bytes: [u8; 5], table: KeyTable) -> Vec<u8> {
+    [&bytes[..], &table.0].concat()
+}
+
+/// The same in a fresh controller with ordinary settings.
+pub fn ordinary_rest() -> Vec<u8> {
+    rest([panel::ORDINARY, 0x3F, 0x03, 0, 0], KeyTable::BUILT_IN)
+}
 
 /// A controller that loads what it saved goes on as a run of the image does.
 pub fn assert_goes_on_as_a_run(random: &mut Random, state: &Controller) {
@@ -20,7 +27,7 @@ pub fn assert_goes_on_as_a_run(random: &mut Random, state: &Controller) {
     assert_eq!(both.load(&saved), 0);
     assert_eq!(both.run(random, &list, list.len() * 3), 0);
     assert_eq!(both.save(random, IMAGE_SIZE), written.saved);
-    assert_eq!(both.bytes()[60..], ORDINARY_REST);
+    assert_eq!(both.bytes()[60..], ordinary_rest());
 }
 
 /// Each byte of the trailer changed, the image cut, and two body rules broken.

@@ -253,7 +253,7 @@ fn followed(settings: Settings) -> Vec<Situation> {
 mod tests {
     use super::*;
     use crate::counter_checks::{assert_each_once, step};
-    use crate::under_settings::{ALL, ORDINARY, SECOND_SET, SECOND_SET_IN_AT_MODE};
+    use crate::under_settings::{ORDINARY, SECOND_SET, SECOND_SET_IN_AT_MODE, all};
 
     /// The situations that the events reach from fresh, each as often as it came.
     fn reached(settings: Settings, events: &[Event]) -> Vec<Situation> {
@@ -270,7 +270,7 @@ mod tests {
 
     #[test]
     fn each_situation_is_asked_for_once() {
-        for settings in ALL {
+        for settings in all() {
             let expected = match (settings.second_set, settings.at_mode) {
                 (false, _) => 0,
                 (true, false) => 15 * 4 + 2 * 52 + 2 * 16 + 28 + 16 + 12 + 6 + 4 + 2 * 7,

@@ -87,13 +87,13 @@ pub fn set_code(state: &mut Controller, number: usize) {
 #[cfg(test)]
 mod tests {
     use super::*;
-    use crate::under_settings::ALL;
+    use crate::under_settings::all;
     use model::{keeps_state_rules, state_bytes};
     use std::collections::BTreeSet;
 
     #[test]
     fn error_mixes_are_those_of_the_mode() {
-        for settings in ALL {
+        for settings in all() {
             let mut seen = BTreeSet::new();
             for errors in error_mixes(settings) {
                 let mut state = Controller::fresh(settings);
@@ -106,7 +106,7 @@ mod tests {
 
     #[test]
     fn latches_take_every_pattern_of_the_mode_and_the_set() {
-        for settings in ALL {
+        for settings in all() {
             let mut seen = BTreeSet::new();
             for number in 0..32 {
                 let mut state = Controller::fresh(settings);
@@ -126,7 +126,7 @@ mod tests {
 
     #[test]
     fn input_latches_and_overlays_are_those_of_the_set() {
-        for settings in ALL {
+        for settings in all() {
             let mut seen = BTreeSet::new();
             let mut nibbles = BTreeSet::new();
             for number in 0..128 {

@@ -16,7 +16,8 @@ pub fn draw(random: &mut Random, locks: [&Controller; 2]) -> Option<Vec<(u8, u8)
         let typed = locks.map(|lock| before_the_code(random, lock, lead));
         let [one, other] = &typed;
         if opens_at_the_end(locks[0], one) && opens_at_the_end(locks[1], other) {
-            let [one, other] = typed.map(keys_for);
+            let one = keys_for(locks[0], one);
+            let other = keys_for(locks[1], other);
             return Some(one.into_iter().zip(other).collect());
         }
     }
@@ -44,8 +45,9 @@ fn opens_at_the_end(lock: &Controller, typed: &[u8]) -> bool {
     opening == Some(typed.len() - 1)
 }
 
-fn keys_for(bytes: Vec<u8>) -> Vec<u8> {
-    bytes.into_iter().filter_map(keys::key_for).collect()
+fn keys_for(lock: &Controller, bytes: &[u8]) -> Vec<u8> {
+    let key = |&byte: &u8| keys::key_for(&lock.settings.table, byte);
+    bytes.iter().filter_map(key).collect()
 }
 
 #[cfg(test)]

@@ -165,7 +165,9 @@ impl Typist {
     fn damage(&mut self, state: &Controller) -> Event {
         if self.random.chance(50) {
             let rest = state.password.bytes().iter().skip(state.position());
-            self.blindly = rest.rev().filter_map(|&byte| keys::key_for(byte)).collect();
+            let table = &state.settings.table;
+            let keys = rest.rev().filter_map(|&byte| keys::key_for(table, byte));
+            self.blindly = keys.collect();
         }
         let frame = unguided::damaged_frame(&mut self.random);
         Event::new(kind::KEYBOARD_FRAME, frame)
@@ -173,7 +175,7 @@ impl Typist {
 
     fn ignored_key(&mut self, state: &Controller) -> Event {
         let code = state.ram[self.random.pick(&cell::IGNORED)];
-        Event::key(keys::key_for(code).unwrap_or(0x12))
+        Event::key(keys::key_for(&state.settings.table, code).unwrap_or(0x12))
     }
 
     /// A key like any other but for a bit that no frame has.

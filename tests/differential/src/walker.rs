@@ -133,7 +133,7 @@ impl Walker {
     /// A key whose code stands in one of the cells that a try ignores.
     fn ignored_key(&mut self, state: &Controller) -> u8 {
         let code = state.ram[self.random.pick(&cell::IGNORED)];
-        keys::key_for(code).unwrap_or(0x12)
+        keys::key_for(&state.settings.table, code).unwrap_or(0x12)
     }
 
     fn mouse_frame(&mut self) -> Event {

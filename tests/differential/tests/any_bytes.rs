@@ -4,23 +4,31 @@
 use differential::event::Event;
 use differential::fenced::Fenced;
 use differential::guarded::Guarded;
+use differential::key_tables;
 use differential::lists;
 use differential::random::Random;
 use differential::refusals::Refusals;
 use differential::rounds::rounds;
 use differential::unguided;
-use model::{ANSWER_SIZE, IMAGE_SIZE};
+use model::{ANSWER_SIZE, IMAGE_SIZE, TABLE_PLACE};
 use panel::{Answer, STATE_SIZE};
 
 const STATES: usize = 100_000;
 
-/// Half of them zeros, so that each part of a state is at rest now and then.
+/// Half of them zeros, so that each part of a state is at rest now and then. In
+/// every other one the key table is sound or nearly so.
 fn drawn(random: &mut Random) -> [u8; STATE_SIZE] {
-    std::array::from_fn(|_| match random.below(4) {
+    let mut bytes = std::array::from_fn(|_| match random.below(4) {
         0 => random.byte(),
         1 => random.byte_in(0..=7),
         _ => 0,
-    })
+    });
+    if random.chance(50) {
+        let table = key_tables::draw(random);
+        let damaged = key_tables::damaged(random, table);
+        bytes[TABLE_PLACE..].copy_from_slice(&damaged.0);
+    }
+    bytes
 }
 
 fn event(random: &mut Random, fenced: &mut Fenced, event: Event) -> Answer {

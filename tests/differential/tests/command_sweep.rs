@@ -11,7 +11,7 @@ use differential::situations::{
     Errors, OUTPUTS, PENDINGS, error_mixes, fill, overlay_nibble, set_code, set_errors,
     set_input_latches, set_latches,
 };
-use differential::under_settings::{locks, seed};
+use differential::under_settings::{locks, seed, thinned};
 use model::{Controller, Device, Pending, Settings, mode};
 
 /// P1 with bits of either value in both nibbles.
@@ -106,7 +106,8 @@ fn what_follows(byte: u8, end: u8) -> [Event; 9] {
 fn every_command_over_every_pending_code(settings: Settings) {
     let mut random = Random::new(seed(settings, 111));
     let mut refusals = Refusals::default();
-    for (number, state) in states(settings).iter().enumerate() {
+    let states = states(settings);
+    for (number, state) in thinned(settings, states.iter().enumerate()) {
         Both::of(&mut random, state).look(&mut random);
         for command in 0..=0xFF_u8 {
             let mut both = Both::of(&mut random, state);

@@ -6,7 +6,7 @@ use differential::event::{Event, kind};
 use differential::random::Random;
 use differential::refusals::Refusals;
 use differential::situations::{Errors, OUTPUTS, error_mixes, fill, set_errors};
-use differential::under_settings::seed;
+use differential::under_settings::{seed, thinned};
 use model::{Controller, Device, Settings, mode};
 
 /// P1 with the key switch turned.
@@ -73,17 +73,16 @@ fn expected_refusal(settings: Settings, device: Device, way: Way) -> u8 {
 fn every_frame_over_every_mix_of_errors(settings: Settings) {
     let mut random = Random::new(seed(settings, 121));
     for (kind, device, off_bit) in DEVICES {
-        for way in ways() {
+        let with_errors = |way| error_mixes(settings).into_iter().map(move |mix| (way, mix));
+        for (way, errors) in thinned(settings, ways().flat_map(with_errors)) {
             let refusal = expected_refusal(settings, device, way);
-            for errors in error_mixes(settings) {
-                let state = standing(settings, off_bit, way, errors);
-                let mut both = Both::of(&mut random, &state);
-                for value in 0..0x800 {
-                    let answer = both.event(&mut random, Event::new(kind, value));
-                    assert_eq!(answer[0], refusal, "{way:?} frame {value:03X}");
-                    if both.model != state {
-                        both = Both::of(&mut random, &state);
-                    }
+            let state = standing(settings, off_bit, way, errors);
+            let mut both = Both::of(&mut random, &state);
+            for value in 0..0x800 {
+                let answer = both.event(&mut random, Event::new(kind, value));
+                assert_eq!(answer[0], refusal, "{way:?} frame {value:03X}");
+                if both.model != state {
+                    both = Both::of(&mut random, &state);
                 }
             }
         }

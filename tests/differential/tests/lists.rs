@@ -8,8 +8,8 @@ use differential::rounds::rounds;
 use differential::under_settings::seed;
 use model::Settings;
 
-const GUIDED_EVENTS: usize = 6_000_000;
-const UNGUIDED_EVENTS: usize = 1_000_000;
+const GUIDED_EVENTS: usize = 2_500_000;
+const UNGUIDED_EVENTS: usize = 500_000;
 
 fn room(random: &mut Random, list: &[u8]) -> usize {
     list.len() * 3 + random.pick(&[0, 0, 1, 8, 9, 100])

@@ -7,15 +7,15 @@ use differential::images;
 use differential::lists;
 use differential::random::Random;
 use differential::refusals::{self, Refusals};
-use differential::reloads::ORDINARY_REST;
+use differential::reloads::ordinary_rest;
 use differential::rounds::rounds;
-use differential::under_settings::{locks, seed};
+use differential::under_settings::{locks, seed, thinned};
 use differential::walks::walk;
-use model::{Controller, Device, EVENT_SIZE, IMAGE_SIZE, Pending, Settings, mode};
+use model::{Controller, Device, EVENT_SIZE, IMAGE_SIZE, Pending, Settings, TABLE_PLACE, mode};
 
-const WALKED_EVENTS: usize = 1_500_000;
-const DRAWN_STATES: usize = 6_000;
-const LISTS: usize = 400;
+const WALKED_EVENTS: usize = 600_000;
+const DRAWN_STATES: usize = 3_000;
+const LISTS: usize = 200;
 
 fn walks_from_fresh(settings: Settings) {
     let mut coverage = Coverage::new();
@@ -72,7 +72,7 @@ fn standing_states(random: &mut Random, settings: Settings) -> Vec<Controller> {
     locked.password.push(0x1E);
     locked.locked = true;
     states.extend([on, locked]);
-    states.extend((0..6).map(|_| images::state(random, settings)));
+    states.extend((0..2).map(|_| images::state(random, settings)));
     states
 }
 
@@ -99,7 +99,7 @@ fn every_event_asked_about(settings: Settings) {
     for state in standing_states(&mut random, settings) {
         let both = Both::of(&mut random, &state);
         for kind in (0..=10).chain([16, 128, 255]) {
-            for value in 0..=u16::MAX {
+            for value in thinned(settings, 0..=u16::MAX) {
                 refusals.note(both.refusal(Event::new(kind, value)));
             }
         }
@@ -144,7 +144,7 @@ fn lists_go_on_from_the_state(settings: Settings) {
     if locks(settings) {
         assert!(coverage.locks > 200 && coverage.opens > 200);
     } else {
-        assert!(coverage.opens > 50, "{}", coverage.opens);
+        assert!(coverage.opens > 25, "{}", coverage.opens);
     }
 }
 
@@ -179,7 +179,7 @@ fn what_is_saved_begins_with_the_body_and_is_loaded_again(settings: Settings) {
         let mut other = Both::started(&mut random, settings);
         assert_eq!(other.load(&saved), 0);
         assert_eq!(other.bytes()[..60], both.bytes()[..60]);
-        assert_eq!(other.bytes()[60..], ORDINARY_REST);
+        assert_eq!(other.bytes()[60..], ordinary_rest());
     }
 }
 
@@ -227,7 +227,9 @@ fn with_code(random: &mut Random, settings: Settings, length: usize, ended: bool
 fn assert_no_code(both: &Both, how: &str) {
     let bytes = both.bytes();
     assert_eq!(bytes[10..28], [0; 18], "{how}");
-    assert!(bytes.iter().all(|byte| !CODE.contains(byte)), "{how}");
+    // The key table behind holds every byte that the code does.
+    let kept = &bytes[..TABLE_PLACE];
+    assert!(kept.iter().all(|byte| !CODE.contains(byte)), "{how}");
 }
 
 /// A code that is whole is dropped by A5h.

@@ -4,9 +4,9 @@ use differential::event::Event;
 use differential::guarded::Guarded;
 use differential::lists;
 use differential::random::Random;
+use differential::starts;
 use differential::under_settings::seed;
 use model::{ANSWER_SIZE, Controller, EVENT_SIZE, Settings, state_bytes};
-use panel::State;
 use std::thread;
 
 const EVENTS: usize = 1_000_000;
@@ -24,7 +24,7 @@ fn expected(state: &mut Controller, list: &[u8], room: usize) -> Vec<u8> {
 }
 
 fn compare(random: &mut Random, settings: Settings, list: &[u8], room: usize) {
-    let mut state = State::fresh(settings.options(), settings.version);
+    let mut state = starts::fresh(settings);
     let mut model = Controller::fresh(settings);
     let mut answers = Guarded::new(random, room);
     state.run_fitting(list, answers.inside());

@@ -12,13 +12,14 @@ use differential::noisy::{Noisy, with_noise};
 use differential::random::Random;
 use differential::refusals::Refusals;
 use differential::rounds::rounds;
+use differential::starts;
 use differential::under_settings::seed;
 use differential::unguided;
 use model::{ANSWER_SIZE, Controller, EVENT_SIZE, IMAGE_SIZE, Settings, save};
 use panel::State;
 
 const KINDS: [u8; 2] = [kind::KEYBOARD_FRAME, kind::MOUSE_FRAME];
-const QUIET_EVENTS: usize = 1_000_000;
+const QUIET_EVENTS: usize = 500_000;
 const DRAWN_IMAGES: usize = 3_000;
 
 /// Every noise frame of both devices, each on the state that the last one left.
@@ -87,7 +88,7 @@ fn every_noise_frame_in_every_scene(settings: Settings) {
 
 /// Runs a list from fresh by the library alone.
 fn run(settings: Settings, list: &[u8]) -> (Vec<u8>, State) {
-    let mut state = State::fresh(settings.options(), settings.version);
+    let mut state = starts::fresh(settings);
     let mut answers = vec![0; list.len() / EVENT_SIZE * ANSWER_SIZE];
     state.run_fitting(list, &mut answers);
     (answers, state)
@@ -96,7 +97,7 @@ fn run(settings: Settings, list: &[u8]) -> (Vec<u8>, State) {
 /// The lines at the start by the library alone.
 fn first_lines(settings: Settings) -> [u8; ANSWER_SIZE] {
     let mut lines = [0; ANSWER_SIZE];
-    State::fresh(settings.options(), settings.version).lines(&mut lines);
+    starts::fresh(settings).lines(&mut lines);
     lines
 }
 

@@ -5,7 +5,7 @@ use differential::both::Both;
 use differential::event::Event;
 use differential::images;
 use differential::random::Random;
-use differential::reloads::{ORDINARY_REST, assert_goes_on_as_a_run, refused_images};
+use differential::reloads::{assert_goes_on_as_a_run, ordinary_rest, refused_images, rest};
 use differential::rounds::rounds;
 use differential::under_settings::{
     SECOND_SET, SECOND_SET_AND_MOUSE_LOCK, SECOND_SET_IN_AT_MODE,
@@ -33,10 +33,11 @@ fn changed(random: &mut Random, settings: Settings) -> Both {
     both
 }
 
-fn changed_rest(settings: Settings) -> [u8; 5] {
+fn changed_rest(settings: Settings) -> Vec<u8> {
     let allowed = 0x08;
     let options = settings.options() | panel::SECOND_SET | allowed;
-    [options, 0x16, 0x02, 0, settings.version]
+    let bytes = [options, 0x16, 0x02, 0, settings.version];
+    rest(bytes, settings.table)
 }
 
 /// The byte that a command puts.
@@ -56,7 +57,7 @@ fn a_save_leaves_the_second_set_out_and_a_load_ends_it() {
         assert_eq!(put_by(&mut random, &mut both, 0xC0), 0xC4);
         assert_eq!(put_by(&mut random, &mut both, 0xAF), settings.version);
         assert_eq!(both.load(&saved), 0);
-        assert_eq!(both.bytes()[60..], ORDINARY_REST);
+        assert_eq!(both.bytes()[60..], ordinary_rest());
         both.look(&mut random);
         // The pins are in the body, and no latch stands before them.
         assert_eq!(put_by(&mut random, &mut both, 0xC0), 0xED);
@@ -74,7 +75,7 @@ fn a_load_over_the_second_set_gives_what_was_saved_with_the_first() {
         let mut both = changed(&mut random, CHOICES[number % 4]);
         assert_eq!(both.load(&saved), 0);
         assert_eq!(both.model, first);
-        assert_eq!(both.bytes()[60..], ORDINARY_REST);
+        assert_eq!(both.bytes()[60..], ordinary_rest());
     }
 }
 

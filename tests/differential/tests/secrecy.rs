@@ -3,27 +3,29 @@
 use differential::event::Event;
 use differential::few_keys;
 use differential::images;
+use differential::key_tables;
+use differential::keys;
 use differential::pairs::{self, Pair, PairCoverage};
 use differential::premise::{comparable, comparable_from};
 use differential::random::Random;
 use differential::rounds::rounds;
+use differential::starts;
 use differential::under_settings::{MOUSE_LOCK, ORDINARY, locks, seed};
 use model::{Controller, EVENT_SIZE, Settings, mode, state_bytes};
 use panel::State;
 
-const PAIRS: usize = 8_000;
+const PAIRS: usize = 4_000;
 /// In AT mode and with the second set no code can be loaded from fresh, so the
 /// lists of a pair are the same there and need no more than this.
-const EQUAL_PAIRS: usize = 500;
-const DRAWN_STATES: usize = 3_000;
-const PAIRS_WITH_SLIPS: usize = 3_000;
+const EQUAL_PAIRS: usize = 250;
+const DRAWN_STATES: usize = 1_500;
+const PAIRS_WITH_SLIPS: usize = 1_500;
+const PAIRS_WITH_TABLES: usize = 1_500;
 
 /// Runs both lists from fresh in buffers that begin alike and compares all of
 /// them.
 fn assert_alike(random: &mut Random, settings: Settings, pair: &Pair, room: usize) -> u8 {
-    let run = |list: &[u8], answers: &mut [u8]| {
-        panel::run(settings.options(), settings.version, list, answers)
-    };
+    let run = |list: &[u8], answers: &mut [u8]| starts::run(settings, list, answers);
     assert_alike_by(run, random, pair, room)
 }
 
@@ -92,18 +94,42 @@ fn pairs_are_answered_alike(settings: Settings) {
     let mut coverage = PairCoverage::default();
     let pairs = if locks(settings) { PAIRS } else { EQUAL_PAIRS };
     for number in 0..(pairs * rounds()) as u64 {
-        let length = random.pick(&[100, 300, 300, 1_000, 3_000]);
         let seed = seed(settings, 700_000 + number);
-        let pair = pairs::build(settings, seed, length, &mut coverage);
-        let comparable = comparable(settings, &pair.first, &pair.second);
-        assert!(comparable, "pair {number}");
-        let room = pair.first.len() * 3 + random.below(20);
-        assert_eq!(assert_alike(&mut random, settings, &pair, room), 0);
+        let pair = assert_pair_alike(&mut random, settings, seed, &mut coverage);
         assert!(locks(settings) || pair.first == pair.second);
     }
     if locks(settings) {
         assert_reached(&coverage);
     }
+}
+
+/// Builds a pair and compares the answers to both of its lists.
+fn assert_pair_alike(
+    random: &mut Random,
+    settings: Settings,
+    seed: u64,
+    coverage: &mut PairCoverage,
+) -> Pair {
+    let length = random.pick(&[100, 300, 300, 1_000, 3_000]);
+    let pair = pairs::build(settings, seed, length, coverage);
+    let comparable = comparable(settings, &pair.first, &pair.second);
+    assert!(comparable, "pair {seed}");
+    let room = pair.first.len() * 3 + random.below(20);
+    assert_eq!(assert_alike(random, settings, &pair, room), 0);
+    pair
+}
+
+/// Pairs that each have a key table of their own, the same for both lists.
+#[test]
+fn pairs_under_tables_of_their_own_are_answered_alike() {
+    let mut random = Random::new(56);
+    let mut coverage = PairCoverage::default();
+    for number in 0..(PAIRS_WITH_TABLES * rounds()) as u64 {
+        let table = key_tables::draw(&mut random);
+        let settings = random.pick(&[ORDINARY, MOUSE_LOCK]).with_table(table);
+        assert_pair_alike(&mut random, settings, 1_900_000 + number, &mut coverage);
+    }
+    assert_reached(&coverage);
 }
 
 /// A state with a lock that is shut and can be typed at.
@@ -214,7 +240,7 @@ fn keys_and_a_write(keys: &[u8]) -> Vec<u8> {
 /// Where one list opens by a slip and the other does not, nothing is asked, and
 /// the answers do differ.
 fn a_slip_that_opens_one_list_only_is_told(settings: Settings) {
-    let [a, b, other] = [0x1C, 0x32, 0x21];
+    let [a, b, other] = [0x1E, 0x30, 0x2E].map(|code| keys::giving(settings, code));
     for (code, opening, shut) in [
         (&[0x1E, 0x1E, 0x30][..], [a, a, a, b], [a, a, a, other]),
         (&[0x1E, 0x1E, 0x30], [a, a, a, b], [b, a, b, b]),

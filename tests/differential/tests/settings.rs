@@ -8,8 +8,9 @@ use differential::fenced::Fenced;
 use differential::guarded::Guarded;
 use differential::images;
 use differential::random::Random;
-use differential::reloads::{ORDINARY_REST, assert_goes_on_as_a_run, refused_images};
-use differential::under_settings::{ALL, AT_MODE, AT_MODE_AND_MOUSE_LOCK, MOUSE_LOCK};
+use differential::reloads::{assert_goes_on_as_a_run, ordinary_rest, refused_images, rest};
+use differential::starts;
+use differential::under_settings::{AT_MODE, AT_MODE_AND_MOUSE_LOCK, MOUSE_LOCK, all};
 use model::{Controller, IMAGE_SIZE, Settings, state_bytes};
 
 /// The mouse on, the key switch turned, a sound mouse frame and a read, which
@@ -87,13 +88,14 @@ fn timed_out(random: &mut Random, settings: Settings) -> Both {
     both
 }
 
-fn rest_in_at_mode(settings: Settings) -> [u8; 5] {
+fn rest_in_at_mode(settings: Settings) -> Vec<u8> {
     let lock = if settings.mouse_lock {
         panel::MOUSE_LOCK
     } else {
         panel::ORDINARY
     };
-    [panel::AT_MODE | lock, 0x3F, 0x08, 0x01, settings.version]
+    let bytes = [panel::AT_MODE | lock, 0x3F, 0x08, 0x01, settings.version];
+    rest(bytes, settings.table)
 }
 
 /// The status and P2 as they are.
@@ -112,7 +114,7 @@ fn a_save_leaves_at_mode_out_and_a_load_ends_it() {
         let saved = both.save(&mut random, IMAGE_SIZE);
         assert_eq!(both.bytes()[60..], rest_in_at_mode(settings));
         assert_eq!(both.load(&saved), 0);
-        assert_eq!(both.bytes()[60..], ORDINARY_REST);
+        assert_eq!(both.bytes()[60..], ordinary_rest());
         both.look(&mut random);
         // The latch of P20 is in the body; the mouse is off.
         assert_eq!(lines(&both), [0x10, 0x09]);
@@ -221,16 +223,16 @@ fn a_refused_load_keeps_at_mode_its_latches_and_its_time_out() {
 #[test]
 fn a_new_start_has_its_own_settings() {
     let mut random = Random::new(96);
-    for before in ALL {
-        for after in ALL {
+    for before in all() {
+        for after in all() {
             let fresh = state_bytes(&Controller::fresh(after));
             let mut fenced = Fenced::new(&mut random);
-            fenced.state_mut().start(before.options(), before.version);
-            fenced.state_mut().start(after.options(), after.version);
+            starts::start(fenced.state_mut(), before);
+            starts::start(fenced.state_mut(), after);
             fenced.assert_bytes(&fresh, "a second start");
             let drawn = state_bytes(&images::state(&mut random, before));
             let mut fenced = Fenced::around(&mut random, drawn);
-            fenced.state_mut().start(after.options(), after.version);
+            starts::start(fenced.state_mut(), after);
             fenced.assert_bytes(&fresh, "a start over another state");
         }
     }

@@ -11,21 +11,26 @@ use differential::random::Random;
 use differential::rounds::rounds;
 use differential::slip_coverage::SlipCoverage;
 use differential::typist::{self, Typist};
-use differential::under_settings::{locks, seed};
+use differential::under_settings::{locks, seed, thinned};
 use model::{
-    BODY_SIZE, Controller, EVENT_SIZE, IMAGE_SIZE, STATE_SIZE, Settings, save, state_bytes,
+    BODY_SIZE, Controller, EVENT_SIZE, IMAGE_SIZE, STATE_SIZE, Settings, Verdict, judge, mode,
+    save, state_bytes, translate,
 };
 use panel::State;
 
-const WALKED_EVENTS: usize = 300_000;
-const LISTED_EVENTS: usize = 600_000;
-const SAVES: usize = 4_000;
-const OTHER_LONG_CODES: usize = 30;
+const WALKED_EVENTS: usize = 150_000;
+const LISTED_EVENTS: usize = 300_000;
+const SAVES: usize = 2_000;
+const OTHER_LONG_CODES: usize = 15;
 
-/// 1Eh and 30h, which the keys give, and a key that gives neither.
+/// What the codes are made of, and a byte that is in none of them.
 const BYTES: [u8; 2] = [0x1E, 0x30];
-const KEYS: [u8; 2] = [0x1C, 0x32];
-const OTHER: u8 = 0x21;
+const OTHER: u8 = 0x2E;
+
+/// The keys that give the two bytes of the codes, and the other.
+fn three_keys(settings: Settings) -> [u8; 3] {
+    [BYTES[0], BYTES[1], OTHER].map(|byte| keys::giving(settings, byte))
+}
 
 /// Fresh, or shut by hand: always so where no events shut it, every other time
 /// else.
@@ -96,10 +101,6 @@ fn lists_typed_at_the_lock(settings: Settings) {
     coverage.assert_reached(settings);
 }
 
-fn key_of(byte: u8) -> Event {
-    Event::key(if byte == BYTES[0] { KEYS[0] } else { KEYS[1] })
-}
-
 /// The position by the definition, from the code and what was typed.
 fn expected_position(code: &[u8], typed: &[u8]) -> usize {
     let mut shorter = (0..code.len()).rev();
@@ -111,7 +112,8 @@ fn expected_position(code: &[u8], typed: &[u8]) -> usize {
 /// each key.
 fn type_all(random: &mut Random, both: &mut Both, code: &[u8], typed: &[u8]) {
     for (at, &byte) in typed.iter().enumerate() {
-        assert_eq!(both.event(random, key_of(byte))[0], 0);
+        let key = Event::key(keys::giving(both.model.settings, byte));
+        assert_eq!(both.event(random, key)[0], 0);
         let so_far = &typed[..=at];
         let open = so_far.ends_with(code);
         let bytes = both.bytes();
@@ -128,7 +130,7 @@ fn type_all(random: &mut Random, both: &mut Both, code: &[u8], typed: &[u8]) {
 fn every_short_code_with_every_list_of_keys(settings: Settings) {
     let mut random = Random::new(seed(settings, 133));
     for length in 1..=5 {
-        for code in few_keys::every_code(BYTES, length) {
+        for code in thinned(settings, few_keys::every_code(BYTES, length)) {
             let state = few_keys::locked(settings, &code, 0);
             for typed in few_keys::every_code(BYTES, 8) {
                 let mut both = Both::of(&mut random, &state);
@@ -142,12 +144,12 @@ fn every_short_code_with_every_list_of_keys(settings: Settings) {
 /// put when the lock opens, so the answers show where.
 fn longer_codes_with_every_longer_list_of_keys(settings: Settings) {
     let list = |typed: Vec<u8>| -> Vec<u8> {
-        let keys = typed.into_iter().map(key_of);
-        keys.flat_map(Event::to_bytes).collect()
+        let keys = typed.iter().map(|&byte| keys::giving(settings, byte));
+        keys.flat_map(|key| Event::key(key).to_bytes()).collect()
     };
     let lists: Vec<Vec<u8>> = few_keys::every_code(BYTES, 11).map(list).collect();
     for length in 1..=6 {
-        for code in few_keys::every_code(BYTES, length) {
+        for code in thinned(settings, few_keys::every_code(BYTES, length)) {
             let state = few_keys::locked(settings, &code, 0);
             for list in &lists {
                 assert_run_alike(&state, list);
@@ -186,14 +188,14 @@ fn type_on(random: &mut Random, state: &Controller, key: u8) {
 fn every_position_of_every_short_code_with_every_key(settings: Settings) {
     let mut random = Random::new(seed(settings, 134));
     for length in 1..=6 {
-        for code in few_keys::every_code(BYTES, length) {
+        for code in thinned(settings, few_keys::every_code(BYTES, length)) {
             for position in 0..length {
                 let state = few_keys::locked(settings, &code, position);
                 for key in 0x01..=0x7F {
                     let mut both = Both::of(&mut random, &state);
                     assert_eq!(both.event(&mut random, Event::key(key))[0], 0);
                 }
-                for key in [KEYS[0], KEYS[1], OTHER] {
+                for key in three_keys(settings) {
                     type_on(&mut random, &state, key);
                 }
             }
@@ -225,7 +227,7 @@ fn long_codes_from_every_position(settings: Settings) {
     for code in long_codes(&mut random) {
         for position in 0..16 {
             let state = few_keys::locked(settings, &code, position);
-            for key in [KEYS[0], KEYS[1], OTHER] {
+            for key in three_keys(settings) {
                 type_on(&mut random, &state, key);
                 run_image(&mut random, &state, key);
                 if let Some(position) = kept_at_a_slip(&state, key) {
@@ -241,7 +243,7 @@ fn long_codes_from_every_position(settings: Settings) {
 /// The position after a key that is counted and is not the right one.
 fn kept_at_a_slip(state: &Controller, key: u8) -> Option<usize> {
     let wrong = keys::right_key(state) != Some(key);
-    let slip = wrong && keys::counts(state, model::entry(key));
+    let slip = wrong && keys::counts(state, state.settings.table.entry(key));
     slip.then(|| {
         let mut after = state.clone();
         after.event(kind::KEYBOARD_FRAME, model::frame(key));
@@ -269,7 +271,7 @@ fn positions_that_no_keys_reach(settings: Settings) {
                     if bytes == BYTES {
                         state.ram[0x17] = BYTES[0];
                     }
-                    for key in [KEYS[0], KEYS[1], OTHER] {
+                    for key in three_keys(settings) {
                         type_on(&mut random, &state, key);
                         run_image(&mut random, &state, key);
                         let part = kept_at_a_slip(&state, key).unwrap_or(0);
@@ -292,6 +294,22 @@ fn of_keyboard(event: Event) -> bool {
     )
 }
 
+/// What an event is to a controller with the built-in table that has been loaded
+/// of this one: where the byte of a key is translated, a key that gives the same
+/// code, if there is one.
+fn by_built_in_table(state: &Controller, event: Event) -> Option<Event> {
+    let translated = state.locked || state.mode(mode::TRANSLATE);
+    match judge(event.value) {
+        Verdict::Sound(byte) if event.kind == kind::KEYBOARD_FRAME && translated => {
+            let given = state.settings.table.translate(byte, false);
+            let mut keys = [byte].into_iter().chain(0x00..=0xFF);
+            keys.find(|&key| translate(key, false) == given)
+                .map(Event::key)
+        }
+        _ => Some(event),
+    }
+}
+
 /// Goes on with what was saved and with what was loaded of it. A load gives the
 /// ordinary settings, so under others the bodies alone are compared, and the
 /// keyboard alone is typed on. True when the lock opens.
@@ -306,12 +324,15 @@ fn go_on_together(
     let compared = if ordinary { STATE_SIZE } else { BODY_SIZE };
     for _ in 0..40 {
         let event = typist.next(&saved.model);
+        let Some(same) = by_built_in_table(&saved.model, event) else {
+            continue;
+        };
         if !ordinary && !of_keyboard(event) {
             continue;
         }
         let was_locked = saved.model.locked;
         let answer = saved.event(random, event);
-        let other = loaded.event(random, event);
+        let other = loaded.event(random, same);
         assert!(!ordinary || answer == other, "{event:?}");
         assert_eq!(saved.bytes()[..compared], loaded.bytes()[..compared]);
         opened |= was_locked && !saved.model.locked;
@@ -346,7 +367,7 @@ fn a_loaded_lock_goes_on_as_the_one_that_was_saved(settings: Settings) {
 /// With 1Eh 1Eh 30h: one key too many, and a start that is typed twice.
 fn the_two_slips_that_growers_make(settings: Settings) {
     let mut random = Random::new(seed(settings, 138));
-    let [a, b] = KEYS;
+    let [a, b, _] = three_keys(settings);
     for (typed, positions) in [
         (&[a, a, a, b][..], &[1, 2, 2, 0][..]),
         (&[a, b, a, a, b], &[1, 0, 1, 2, 0]),

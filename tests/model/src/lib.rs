@@ -1,5 +1,6 @@
 //! A plain model of the 8042 keyboard controller in PS/2 mode and in AT mode,
-//! with the first command set and with that of the VT82C42.
+//! with the first command set and with that of the VT82C42, and with the built-in
+//! key table or another.
 //!
 //! It follows the written rules and nothing else, and serves as the yardstick
 //! for the library under test.
@@ -16,10 +17,13 @@ mod event;
 mod frame;
 mod image;
 mod input_port;
+mod key_table;
+mod key_table_rules;
 mod latches;
 mod lines;
 mod list;
 mod lock;
+mod own_table;
 mod password;
 mod receive;
 mod refusal;
@@ -36,10 +40,13 @@ pub use controller::{Controller, Device, Pending, cell, mode};
 pub use counted::Counted;
 pub use frame::{Verdict, frame, judge};
 pub use image::{IMAGE_SIZE, find, load, save, store, word_sum};
+pub use key_table::{KeyTable, TABLE_SIZE};
+pub use key_table_rules::table_refusal;
 pub use list::{ANSWER_SIZE, EVENT_SIZE, LIST_LIMIT, list_refusal, run};
+pub use own_table::run_with_table;
 pub use password::{PASSWORD_LIMIT, Password};
 pub use settings::Settings;
-pub use state_bytes::{STATE_SIZE, state_bytes};
+pub use state_bytes::{STATE_SIZE, TABLE_PLACE, state_bytes};
 pub use state_rules::keeps_state_rules;
 pub use stored_run::run_image;
-pub use translation::{entry, translate};
+pub use translation::translate;

@@ -3,7 +3,6 @@
 use crate::controller::{Controller, Device, mode};
 use crate::errors::Error;
 use crate::frame::{Verdict, judge};
-use crate::translation::translate;
 
 /// Put in place of a byte that arrived damaged.
 const DAMAGED: u8 = 0xFF;
@@ -68,7 +67,7 @@ impl Controller {
             self.break_flag = false;
             return Some(byte);
         }
-        let (code, break_flag) = translate(byte, self.break_flag);
+        let (code, break_flag) = self.settings.table.translate(byte, self.break_flag);
         self.break_flag = break_flag;
         code
     }

@@ -1,5 +1,7 @@
 //! What a start chooses. No event changes it.
 
+use crate::key_table::KeyTable;
+
 /// Bits of the options byte; the others are not looked at.
 mod option {
     pub const MOUSE_LOCK: u8 = 1 << 0;
@@ -18,6 +20,8 @@ pub struct Settings {
     /// What the second set puts for the controller's version. It is kept with
     /// the first set too, where nothing shows it.
     pub version: u8,
+    /// What translates the keyboard's bytes.
+    pub table: KeyTable,
 }
 
 impl Settings {
@@ -30,7 +34,8 @@ impl Settings {
     pub const SECOND_SET_IN_AT_MODE: Settings = Settings::chosen(6);
     pub const SECOND_SET_IN_AT_MODE_AND_MOUSE_LOCK: Settings = Settings::chosen(7);
 
-    /// Every choice, the ordinary one first, each with version byte 0.
+    /// Every choice, the ordinary one first, each with version byte 0 and the
+    /// built-in table.
     pub const ALL: [Settings; 8] = [
         Settings::ORDINARY,
         Settings::MOUSE_LOCK,
@@ -46,18 +51,25 @@ impl Settings {
         Settings::from_options(options, 0)
     }
 
+    /// What these two bytes name, with the built-in table.
     pub const fn from_options(options: u8, version: u8) -> Settings {
         Settings {
             mouse_lock: options & option::MOUSE_LOCK != 0,
             at_mode: options & option::AT_MODE != 0,
             second_set: options & option::SECOND_SET != 0,
             version,
+            table: KeyTable::BUILT_IN,
         }
     }
 
     /// The same choice with another version byte.
     pub const fn with_version(self, version: u8) -> Settings {
         Settings { version, ..self }
+    }
+
+    /// The same choice with another table.
+    pub const fn with_table(self, table: KeyTable) -> Settings {
+        Settings { table, ..self }
     }
 
     /// The options byte that names these settings.

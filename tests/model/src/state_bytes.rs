@@ -1,10 +1,13 @@
-//! The bytes of a state that a caller keeps: the body, the options, and what a
-//! body has no place for.
+//! The bytes of a state that a caller keeps: the body, the options, what a body
+//! has no place for, and the key table.
 
 use crate::body::{BODY_SIZE, encode};
 use crate::controller::Controller;
+use crate::key_table::TABLE_SIZE;
 
-pub const STATE_SIZE: usize = BODY_SIZE + 5;
+pub const STATE_SIZE: usize = TABLE_PLACE + TABLE_SIZE;
+/// Where the key table stands, to the end.
+pub const TABLE_PLACE: usize = BODY_SIZE + 5;
 
 /// Where each thing stands behind the body.
 mod at {
@@ -43,6 +46,7 @@ pub fn state_bytes(state: &Controller) -> [u8; STATE_SIZE] {
     bytes[at::LATCHES] = upper_latches(state);
     bytes[at::TRANSMIT_TIMEOUT] = u8::from(state.transmit_timeout);
     bytes[at::VERSION] = state.settings.version;
+    bytes[TABLE_PLACE..].copy_from_slice(&state.settings.table.0);
     bytes
 }
 

@@ -5,6 +5,7 @@ use crate::body::encode;
 use crate::body_rules::keeps_body_rules;
 use crate::controller::Controller;
 use crate::input_port::LATCHED;
+use crate::key_table_rules::table_refusal;
 
 pub fn keeps_state_rules(state: &Controller) -> bool {
     keeps_body_rules(&encode(state))
@@ -12,6 +13,7 @@ pub fn keeps_state_rules(state: &Controller) -> bool {
         && output_port_sound(state)
         && errors_sound(state)
         && overlay_sound(state)
+        && table_refusal(&state.settings.table.0) == 0
 }
 
 /// P16 and P17 have no latch, and the first set has none at all.

@@ -13,7 +13,7 @@ fn changed(settings: Settings) -> Host {
     host.data(0xED);
     host.timed_out();
     assert_eq!(
-        state_bytes(&host.state)[60..],
+        state_bytes(&host.state)[60..65],
         [settings.options(), 0x3F, 0x08, 0x01, 0]
     );
     host

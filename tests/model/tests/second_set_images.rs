@@ -17,7 +17,7 @@ fn changed(settings: Settings) -> Host {
     let lines = if settings.at_mode { 0x08 } else { 0x00 };
     let options = settings.options() | 0x08;
     assert_eq!(
-        state_bytes(&host.state)[60..],
+        state_bytes(&host.state)[60..65],
         [options, 0x16, lines, 0, 0x77]
     );
     host

@@ -3,7 +3,8 @@
 mod host;
 
 use host::Host;
-use model::{Controller, Settings, encode, run, state_bytes};
+use host::tables::reversed;
+use model::{Controller, KeyTable, Settings, encode, run, state_bytes};
 
 #[test]
 fn only_three_bits_of_the_options_count() {
@@ -14,6 +15,7 @@ fn only_three_bits_of_the_options_count() {
         assert_eq!(settings.second_set, options / 4 % 2 == 1, "{options:02X}");
         assert_eq!(settings.options(), options % 8, "{options:02X}");
         assert_eq!(settings.version, 0x5A);
+        assert_eq!(settings.table, KeyTable::BUILT_IN);
     }
 }
 
@@ -30,15 +32,16 @@ fn every_choice_is_listed_once() {
 }
 
 #[test]
-fn state_bytes_are_the_body_the_options_and_the_rest() {
+fn state_bytes_are_the_body_the_options_the_rest_and_the_table() {
     for settings in Settings::ALL {
         for version in 0..=0xFF {
             let fresh = Controller::fresh(settings.with_version(version));
             let bytes = state_bytes(&fresh);
-            assert_eq!(bytes.len(), 65);
+            assert_eq!(bytes.len(), 321);
             assert_eq!(bytes[..60], encode(&fresh));
             let rest = [settings.options(), 0x3F, 0x03, 0, version];
-            assert_eq!(bytes[60..], rest);
+            assert_eq!(bytes[60..65], rest);
+            assert_eq!(bytes[65..], KeyTable::BUILT_IN.0);
         }
     }
 }
@@ -52,7 +55,8 @@ fn each_latch_the_leave_and_the_time_out_has_its_bit() {
         change(&mut state);
         let bytes = state_bytes(&state);
         assert_eq!(bytes[..60], state_bytes(&fresh)[..60]);
-        bytes[60..].to_vec()
+        assert_eq!(bytes[65..], state_bytes(&fresh)[65..]);
+        bytes[60..65].to_vec()
     };
     assert_eq!(
         rest(|state| state.output_port_allowed = true),
@@ -99,7 +103,8 @@ fn fresh_differs_in_the_settings_alone() {
 /// Each event in a state where most of them act.
 #[test]
 fn no_event_changes_the_settings() {
-    for settings in Settings::ALL.map(|choice| choice.with_version(0x42)) {
+    let choices = Settings::ALL.map(|choice| choice.with_version(0x42).with_table(reversed()));
+    for settings in choices {
         for kind in 0..=9 {
             for value in 0..=0x800 {
                 let mut host = Host::ready_under(settings);

@@ -67,6 +67,16 @@ fn the_body_rules_are_asked_too() {
     assert!(kept_under(|state| state.overlay = Some(16)).is_empty());
 }
 
+#[test]
+fn every_table_that_is_refused_breaks_them() {
+    assert!(kept_under(|state| state.settings.table.0[0x7F] = 0x01).is_empty());
+    assert!(kept_under(|state| state.settings.table.0[0xFE] = 0xFF).is_empty());
+    assert_eq!(
+        kept_under(|state| state.settings.table.0[0x80] = 0).len(),
+        8
+    );
+}
+
 /// Every command, the byte after it, a time-out, and a poll with every pin low.
 #[test]
 fn commands_and_their_bytes_keep_the_rules() {

@@ -2,6 +2,13 @@
 
 unsafe extern "C" {
     pub fn calugnid_start(state: *mut u8, options: u8, version: u8);
+    pub fn calugnid_start_with_table(
+        state: *mut u8,
+        options: u8,
+        version: u8,
+        table: *const u8,
+        table_len: usize,
+    ) -> u8;
     pub fn calugnid_event(state: *mut u8, kind: u8, value: u16, answer: *mut u8);
     pub fn calugnid_run_state(
         state: *mut u8,
@@ -31,6 +38,17 @@ unsafe extern "C" {
         answers: *mut u8,
         answers_len: usize,
     ) -> u8;
+    pub fn calugnid_run_with_table(
+        options: u8,
+        version: u8,
+        table: *const u8,
+        table_len: usize,
+        list: *const u8,
+        list_len: usize,
+        answers: *mut u8,
+        answers_len: usize,
+    ) -> u8;
+    pub fn calugnid_table_refusal(table: *const u8, table_len: usize) -> u8;
     pub fn calugnid_run_image(
         image: *const u8,
         image_len: usize,

@@ -32,6 +32,35 @@ pub fn run(options: u8, version: u8, list: &[u8], answers: &mut [u8]) -> u8 {
     }
 }
 
+/// The same with a key table.
+pub fn run_with_table(
+    options: u8,
+    version: u8,
+    table: &[u8],
+    list: &[u8],
+    answers: &mut [u8],
+) -> u8 {
+    // SAFETY: each pointer comes with the length of its own slice.
+    unsafe {
+        ffi::calugnid_run_with_table(
+            options,
+            version,
+            table.as_ptr(),
+            table.len(),
+            list.as_ptr(),
+            list.len(),
+            answers.as_mut_ptr(),
+            answers.len(),
+        )
+    }
+}
+
+/// The number that would refuse a key table, 0 for none.
+pub fn table_refusal(table: &[u8]) -> u8 {
+    // SAFETY: the pointer comes with the length of its slice.
+    unsafe { ffi::calugnid_table_refusal(table.as_ptr(), table.len()) }
+}
+
 /// Loads an image, runs a list, saves, and hands back the refusal number.
 pub fn run_image(image: &[u8], list: &[u8], answers: &mut [u8], saved: &mut [u8]) -> u8 {
     // SAFETY: each pointer comes with the length of its own slice, and the
@@ -68,7 +97,7 @@ pub fn frame(byte: u8) -> u16 {
     unsafe { ffi::calugnid_frame(byte) }
 }
 
-/// What a byte yields in bits 0-7, whether it yields at all in bit 8, and the
+/// By the built-in key table: what a byte yields in bits 0-7, whether it yields at all in bit 8, and the
 /// break flag afterwards in bit 9.
 pub fn translate(byte: u8, break_flag: bool) -> u16 {
     // SAFETY: only a number and a truth value are passed.

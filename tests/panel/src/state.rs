@@ -3,13 +3,14 @@
 use crate::ffi;
 use std::cell::UnsafeCell;
 
-pub const STATE_SIZE: usize = 65;
+pub const STATE_SIZE: usize = 321;
 pub const ANSWER_SIZE: usize = 9;
 
 pub type Answer = [u8; ANSWER_SIZE];
 
 /// The bytes that the library changes in place: an image's body, the options,
-/// what only AT mode or the second set changes, and the version byte.
+/// what only AT mode or the second set changes, the version byte, and the key
+/// table.
 ///
 /// They stand in a cell, so that a call which writes where it is only to read
 /// is seen by whoever looks at the bytes afterwards.
@@ -42,6 +43,21 @@ impl State {
     pub fn start(&mut self, options: u8, version: u8) {
         // SAFETY: the pointer is to a whole state.
         unsafe { ffi::calugnid_start(self.pointer(), options, version) }
+    }
+
+    /// The same with a key table; hands back the refusal number.
+    pub fn start_with_table(&mut self, options: u8, version: u8, table: &[u8]) -> u8 {
+        // SAFETY: the first pointer is to a whole state, the other comes with
+        // the length of its slice.
+        unsafe {
+            ffi::calugnid_start_with_table(
+                self.pointer(),
+                options,
+                version,
+                table.as_ptr(),
+                table.len(),
+            )
+        }
     }
 
     /// Carries out one event and writes its answer.

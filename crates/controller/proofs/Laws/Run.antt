@@ -1,12 +1,12 @@
--- From runs of parts of a list to the run of the whole, and to the promises of the calls. Assumes nothing.
-use Prim.Native.Nat.{ℕ, _+_, _*_, _-_, _≤_, _<_}
+-- From single events to the run of a list, and to the promises of the calls. Assumes nothing.
+use Prim.Native.Nat.{ℕ, _+_, _-_, _≤_, _<_}
 use mathlib.Core.Path.{_≡_, refl, ap, ap₂, sym, subst, _∙_}
 use mathlib.Core.List.{List, [], _∷_, _++_, append-assoc, append-nil}
-use mathlib.Core.Bool.{true, _&&_}
+use mathlib.Core.Bool.{true, false, _&&_}
 use native.Mathlib.Omega.{arith}
 use lib.Dec.{leb}
-use borrow.Author.Tests.{leb-true}
-use Rattle.translation.proofs.Tests.{and-true}
+use borrow.Author.Tests.{leb-true, leb-false}
+use Rattle.translation.proofs.Tests.{split, and-true}
 use lib.ListN.{length, set, take, drop, length-drop, length-append, length-take, drop-of-length-le, take-append-drop}
 use lib.Seq.{take-at, drop-at, drop-drop, take-append-add}
 use Rattle.machine.specs.Settings.{Settings}
@@ -20,11 +20,9 @@ use Rattle.machine.proofs.Laws.Events.{reply-refused, refusal-kind}
 use Rattle.machine.proofs.Laws.Kept.{keeps}
 use Rattle.machine.proofs.Laws.Changed.{chain, by-rule, untouched}
 use Rattle.machine.proofs.Laws.Lists.{take-rest, handed, handed-back}
-use Rattle.machine.proofs.Laws.Run.{length-answer, length-answers, after-kept, after-append}
-use Rattle.machine.proofs.Laws.Run.{fitting-short, fitting-tight, fitting-more, fitting-all, fitting-piece, fitting-split, length-piece}
-use Rattle.machine.proofs.Laws.Run.{filled-none, filled-parts, filled-more, filled-append}
+use Rattle.machine.proofs.Laws.Run.{length-answer, after-kept, fitting-short, fitting-tight, fitting-more, fitting-all, filled-none, filled-more}
 use Rattle.controller.specs.Promises.{EventAnswered, FittingRun, ListRun, FreshRun}
-use Rattle.controller.specs.Steps.{EventWritten, PieceRun}
+use Rattle.controller.specs.Steps.{EventWritten, EventsRun}
 
 -- ---- FittingRun: a change by the events that fit, and the buffer
 fitting-run : {s s′ list space space′ : List ℕ} → Changed (λ m. after m (fitting list space)) s s′ → space′ ≡ filled (view s) (fitting list space) space →
@@ -66,57 +64,6 @@ module _ {s n list space mid : List ℕ} (h : 3 ≤ length list) (room : 9 ≤ l
       ∙ ap (λ (k : Machine). filled k es (drop 9 space)) (one .change .machine))
       ∙ filled-more m e es space ∙ ap (λ (fs : List Event). filled m fs space) (sym all))
 
-  -- nothing fits behind it
-  run-last : fitting (drop 3 list) (drop 9 mid) ≡ [] → FittingRun s list space n mid
-  run-last none =
-      subst (λ (d : List ℕ). FittingRun s list space n d) (take-append-drop 9 mid) (run-more (run-none none))
-
-  pub piece-last : length list < 6 → PieceRun s list space n mid
-  piece-last short =
-      record { run = run-last (fitting-short (drop 3 list) (drop 9 mid) (simp length-drop (omega arith))); alone = λ _. one .unchanged }
-
-  pub piece-tight : 6 ≤ length list → length mid < 18 → PieceRun s list space n mid
-  piece-tight long tight =
-      record {
-        run = run-last (fitting-tight (drop 3 list) (drop 9 mid) (simp length-drop (omega arith)));
-        alone = λ short. absurd (omega arith);
-      }
-
-  pub piece-more : {r ys : List ℕ} → 6 ≤ length list →
-      PieceRun n (take (length list - 3) (drop 3 list)) (take (length mid - 9) (drop 9 mid)) r ys →
-      PieceRun s list space r (handed 9 mid ys)
-  piece-more {r} {ys} long lent =
-      let more : FittingRun n (drop 3 list) (drop 9 mid) r ys = rw (take-rest 3 list, take-rest 9 mid) at (lent .run) in
-      record { run = rw (handed-back 9 mid ys) (run-more more); alone = λ short. absurd (omega arith) }
-
--- a piece of n events that all have room, and what the rest makes of the buffer behind their answers
-pub run-pieces : (n : ℕ) {s t r list space mid ys : List ℕ} → 3 * n ≤ length list → 9 * n ≤ length space →
-    FittingRun s (take (3 * n) list) space t mid →
-    FittingRun t (drop (3 * n) list) (drop (9 * n) mid) r ys →
-    FittingRun s list space r (take (9 * n) mid ++ ys)
-run-pieces n {s} {t} {r} {list} {space} {mid} {ys} some room one more =
-    let m = view s in
-    let es = events (take (3 * n) list) in
-    let count = length-piece n list space some room in
-    let long : length (answers m es) ≡ 9 * n = length-answers m es ∙ omega (arith, count) in
-    let fits = fitting-piece n list space some room in
-    let told : mid ≡ answers m es ++ drop (9 * n) space =
-    one .buffer ∙ ap (λ (fs : List Event). filled m fs space) fits ∙ filled-parts m es space ∙ ap (λ (k : ℕ). answers m es ++ drop (9 * k) space) count in
-    let rest : drop (9 * n) mid ≡ drop (9 * n) space = ap (drop (9 * n)) told ∙ drop-at (answers m es) (drop (9 * n) space) (9 * n) long in
-    let fs = fitting (drop (3 * n) list) (drop (9 * n) space) in
-    let all = fitting-split n list space some room in
-    let same : fitting (drop (3 * n) list) (drop (9 * n) mid) ≡ fs = ap (fitting (drop (3 * n) list)) rest in
-    let step₁ : Changed (λ k. after k es) s t = by-rule (run-change one) (ap (after m) fits) in
-    fitting-run
-    (by-rule (chain step₁ (run-change more))
-    (ap (after (after m es)) same ∙ sym (after-append m es fs) ∙ ap (after m) (sym all)))
-    (ap₂ (λ (a b : List ℕ). a ++ b) (ap (take (9 * n)) told ∙ take-at (answers m es) (drop (9 * n) space) (9 * n) long)
-    (more .buffer ∙ ap (λ (gs : List Event). filled (view t) gs (drop (9 * n) mid)) same ∙ ap (filled (view t) fs) rest
-    ∙ ap (λ (k : Machine). filled k fs (drop (9 * n) space)) (step₁ .machine))
-    ∙ ap (λ (k : ℕ). answers m es ++ filled (after m es) fs (drop (9 * k) space)) (sym count)
-    ∙ sym (filled-append m es fs space)
-    ∙ ap (λ (gs : List Event). filled m gs space) (sym all))
-
 -- ---- ListRun
 pub list-refused : {s list space : List ℕ} {n : ℕ} → n ≡ listRefusal list space → (n ≡ 0 → ⊥) → ListRun s list space n s space
 list-refused {list = list} {space = space} number some =
@@ -154,27 +101,29 @@ fresh-run {x} {s} {list} {space} start run =
       answered = λ a. run .buffer a ∙ ap (λ (m : Machine). filled m (events list) space) start;
     }
 
--- ---- a list in pieces of 500 events
+-- ---- a list event by event
 -- The run so far, of `done` bytes of the list with `told` bytes of answers: whatever the run of the rest makes of the buffer behind them, it
--- makes the run of the whole.
-pub record Pieced (s₀ list space₀ s space : List ℕ) (done told : ℕ) : Type 0 where
+-- makes the run of the whole. Before the first event nothing has changed, nor after it where it was refused.
+pub record Ran (s₀ list space₀ s space : List ℕ) (done told : ℕ) : Type 0 where
   pub within : done ≤ length list
   pub room : told ≤ length space
   pub same : length space ≡ length space₀
   pub whole : (r ys : List ℕ) → FittingRun s (drop done list) (drop told space) r ys → FittingRun s₀ list space₀ r (take told space ++ ys)
+  pub none : done < 3 → (done ≡ 0) × (s ≡ s₀)
+  pub alone : done < 6 → (refusal (public s₀) (first list) ≡ 0 → ⊥) → s ≡ s₀
 
-pub pieced-start : {s list space : List ℕ} → Pieced s list space s space 0 0
-pieced-start = record { within = omega arith; room = omega arith; same = refl; whole = λ r ys run. run }
+pub ran-start : {s list space : List ℕ} → Ran s list space s space 0 0
+ran-start =
+    record { within = omega arith; room = omega arith; same = refl; whole = λ r ys run. run; none = λ _. (refl, refl); alone = λ _ _. refl }
 
-module _ {s₀ list space₀ s space : List ℕ} {done told : ℕ} (so-far : Pieced s₀ list space₀ s space done told) where
-  -- one piece more, its parts as the loop lends them
-  pub pieced-more : {t ys : List ℕ} → 1500 ≤ length list - done → 4500 ≤ length space - told →
+module _ {s₀ list space₀ s space : List ℕ} {done told : ℕ} (so-far : Ran s₀ list space₀ s space done told) where
+  -- one event more, its parts as the loop lends them
+  pub ran-more : {t ys : List ℕ} → 3 ≤ length list - done → 9 ≤ length space - told →
       length ys ≡ length (take (length space - told) (drop told space)) →
-      FittingRun s (take (done + 1500 - done) (drop done list)) (take (length space - told) (drop told space)) t ys →
-      Pieced s₀ list space₀ t (handed told space ys) (done + 1500) (told + 4500)
-  pieced-more {t} {ys} some room kept lent =
-      let short : done + 1500 - done ≡ 1500 = omega arith in
-      let piece : FittingRun s (take 1500 (drop done list)) (drop told space) t ys = rw (short, take-rest told space) at lent in
+      EventWritten s (first (take (length list - done) (drop done list))) (take (length space - told) (drop told space)) t ys →
+      Ran s₀ list space₀ t (handed told space ys) (done + 3) (told + 9)
+  ran-more {t} {ys} some room kept lent =
+      let one : EventWritten s (first (drop done list)) (drop told space) t ys = rw (take-rest done list, take-rest told space) at lent in
       let back = handed-back told space ys in
       let front : length (take told space) ≡ told = simp length-take (omega (arith, so-far .room)) in
       let long : length ys ≡ length space - told = kept ∙ ap length (take-rest told space) ∙ length-drop told space in
@@ -183,38 +132,44 @@ module _ {s₀ list space₀ s space : List ℕ} {done told : ℕ} (so-far : Pie
         room = rw back (simp length-append (omega (arith, front, long, room, so-far .room)));
         same = ap length back ∙ length-append (take told space) ys ∙ omega (arith, front, long, so-far .room, so-far .same);
         whole = λ r zs rest.
-            let later : drop (told + 4500) (handed told space ys) ≡ drop 4500 ys =
-            ap (drop (told + 4500)) back
-            ∙ sym (drop-drop 4500 told (take told space ++ ys)) ∙ ap (drop 4500) (drop-at (take told space) ys told front) in
-            let whole-rest : FittingRun t (drop 1500 (drop done list)) (drop 4500 ys) r zs =
-            subst (λ (d : List ℕ). FittingRun t (drop 1500 (drop done list)) d r zs) later
-            (subst (λ (d : List ℕ). FittingRun t d (drop (told + 4500) (handed told space ys)) r zs) (sym (drop-drop 1500 done list)) rest) in
-            let taken : take (told + 4500) (handed told space ys) ≡ take told space ++ take 4500 ys =
-            ap (take (told + 4500)) back
-            ∙ ap (λ (n : ℕ). take (n + 4500) (take told space ++ ys)) (sym front) ∙ take-append-add (take told space) ys 4500 in
+            let later : drop (told + 9) (handed told space ys) ≡ drop 9 ys =
+            ap (drop (told + 9)) back
+            ∙ sym (drop-drop 9 told (take told space ++ ys)) ∙ ap (drop 9) (drop-at (take told space) ys told front) in
+            let whole-rest : FittingRun t (drop 3 (drop done list)) (drop 9 ys) r zs =
+            subst (λ (d : List ℕ). FittingRun t (drop 3 (drop done list)) d r zs) later
+            (subst (λ (d : List ℕ). FittingRun t d (drop (told + 9) (handed told space ys)) r zs) (sym (drop-drop 3 done list)) rest) in
+            let taken : take (told + 9) (handed told space ys) ≡ take told space ++ take 9 ys =
+            ap (take (told + 9)) back
+            ∙ ap (λ (n : ℕ). take (n + 9) (take told space ++ ys)) (sym front) ∙ take-append-add (take told space) ys 9 in
             subst (λ (d : List ℕ). FittingRun s₀ list space₀ r d)
-            (sym (append-assoc (take told space) (take 4500 ys) zs) ∙ ap (λ (d : List ℕ). d ++ zs) (sym taken))
-            (so-far .whole r (take 4500 ys ++ zs)
-            (run-pieces 500 (simp length-drop (omega (arith, some))) (simp length-drop (omega (arith, room))) piece whole-rest));
+            (sym (append-assoc (take told space) (take 9 ys) zs) ∙ ap (λ (d : List ℕ). d ++ zs) (sym taken))
+            (so-far .whole r (take 9 ys ++ zs)
+            (run-more (simp length-drop (omega (arith, some))) (simp length-drop (omega (arith, room))) one whole-rest));
+        none = λ few. absurd (omega arith);
+        alone = λ few refused.
+            let (at, unchanged) = so-far .none (omega arith) in
+            let same-first : refusal (public s) (first (drop done list)) ≡ refusal (public s₀) (first list) =
+            ap₂ (λ (x : List ℕ) (n : ℕ). refusal (public x) (first (drop n list))) unchanged at in
+            one .unchanged (λ a. refused (sym same-first ∙ a)) ∙ unchanged;
       }
 
   -- nothing is left that fits
-  pieced-done : fitting (drop done list) (drop told space) ≡ [] → FittingRun s₀ list space₀ s space
-  pieced-done none =
-      subst (λ (d : List ℕ). FittingRun s₀ list space₀ s d) (take-append-drop told space) (so-far .whole s (drop told space) (run-none none))
+  ran-done : fitting (drop done list) (drop told space) ≡ [] → EventsRun s₀ list space₀ s space
+  ran-done nothing =
+      record {
+        run =
+            subst (λ (d : List ℕ). FittingRun s₀ list space₀ s d) (take-append-drop told space) (so-far .whole s (drop told space) (run-none nothing));
+        alone = λ short. so-far .alone (omega (arith, so-far .within));
+      }
 
-  pub pieced-short : length list - done < 3 → FittingRun s₀ list space₀ s space
-  pieced-short short = pieced-done (fitting-short (drop done list) (drop told space) (simp length-drop (omega arith)))
-
-  pub pieced-tight : length space - told < 9 → FittingRun s₀ list space₀ s space
-  pieced-tight tight = pieced-done (fitting-tight (drop done list) (drop told space) (simp length-drop (omega arith)))
-
-  -- the last piece
-  pub pieced-end : {r ys : List ℕ} → FittingRun s (take (length list - done) (drop done list)) (take (length space - told) (drop told space)) r ys →
-      FittingRun s₀ list space₀ r (handed told space ys)
-  pieced-end {r} {ys} lent =
-      let rest : FittingRun s (drop done list) (drop told space) r ys = rw (take-rest done list, take-rest told space) at lent in
-      rw (handed-back told space ys) (so-far .whole r ys rest)
+  pub ran-all : (leb 3 (length list - done) && leb 9 (length space - told)) ≡ false → EventsRun s₀ list space₀ s space
+  ran-all ended =
+      ran-done
+      (split (leb 3 (length list - done))
+      (λ more.
+      let tight : leb 9 (length space - told) ≡ false = simp more at ended in
+      fitting-tight (drop done list) (drop told space) (simp length-drop (leb-false 9 (length space - told) tight)))
+      (λ short. fitting-short (drop done list) (drop told space) (simp length-drop (leb-false 3 (length list - done) short))))
 
 -- both tests of the loop
 pub both-le : (a b c d : ℕ) → (leb a b && leb c d) ≡ true → (a ≤ b) × (c ≤ d)
@@ -224,20 +179,20 @@ both-le a b c d passed =
 
 -- ---- EventAnswered: a list of one event, with room for its answer alone
 pub one-answered : {s s′ answer₀ reply : List ℕ} {kind low high : ℕ} → length answer₀ ≡ 9 →
-    PieceRun s (kind ∷ low ∷ high ∷ []) answer₀ s′ reply →
+    EventsRun s (kind ∷ low ∷ high ∷ []) answer₀ s′ reply →
     EventAnswered s (event kind low high) s′ reply
 unfolding after answers filled events
-one-answered {s} {s′} {answer₀} {reply} {kind} {low} {high} nine piece =
+one-answered {s} {s′} {answer₀} {reply} {kind} {low} {high} nine ran =
     let e = event kind low high in
     let all : fitting (kind ∷ low ∷ high ∷ []) answer₀ ≡ e ∷ [] = rw nine refl in
-    let change : Changed (λ m. step m e) s s′ = by-rule (run-change (piece .run)) (ap (after (view s)) all) in
+    let change : Changed (λ m. step m e) s s′ = by-rule (run-change (ran .run)) (ap (after (view s)) all) in
     record {
       stepped = change .machine;
       bytes = λ b. change .bytes b ∙ ap stateOf (change .machine);
       answered =
-          piece .run .buffer ∙ ap (λ (es : List Event). filled (view s) es answer₀) all
+          ran .run .buffer ∙ ap (λ (es : List Event). filled (view s) es answer₀) all
           ∙ ap₂ (λ (a b : List ℕ). a ++ b) (append-nil (answer (view s) e)) (drop-of-length-le answer₀ {i = 9} (omega arith)) ∙ append-nil (answer (view s) e);
-      unchanged = piece .alone (omega arith);
+      unchanged = ran .alone (omega arith);
       kept = λ k. subst Kept (sym (change .machine)) (keeps (view s) e k);
     }
 

@@ -17,12 +17,14 @@ use Rattle.machine.specs.Kept.{Kept}
 use Rattle.machine.specs.View.{stateLength, body, beyond, stateOf, at, view, IsState}
 use Rattle.machine.proofs.Laws.Lists.{Below, below-take, below-drop, below-append, length-part}
 use Rattle.machine.proofs.Laws.Bits.{flags-full, flags-mouse, flags-locked, flags-below, latches-below, overlay-below, eqb-nibble}
+use Rattle.translation.specs.KeyTable.{builtIn, tableRefusal}
+use Rattle.translation.proofs.KeyTable.{builtIn-passes, accepted-length}
 use Rattle.machine.proofs.Laws.Code.{code-long, code-byte}
 use Rattle.machine.proofs.Laws.View.{ram-of}
 use Rattle.machine.proofs.Laws.Settings.{fresh-settings}
 use Rattle.machine.proofs.Laws.Cond.{not-both}
 use Rattle.machine.proofs.Laws.Kept.{ordinary-kept}
-use Rattle.machine.proofs.Laws.Body.{beyond-same, beyond-below, tidied, length-extended, take-extended, byte-extended, tidied-extended}
+use Rattle.machine.proofs.Laws.Body.{beyond-same, beyond-below, tidied, length-extended, take-extended, table-extended, byte-extended, tidied-extended}
 use Rattle.machine.proofs.Laws.Body.{length-body, code-part, ram-part, view-state, Tidy, tidy-state, body-front}
 use Rattle.image.specs.Layout.{bodyLength, imageLength, sealed, image}
 use Rattle.image.specs.Find.{lastBytes, ends, found}
@@ -62,9 +64,9 @@ module _ (s : List ℕ) (long : length s ≡ stateLength) (r : Rules s) (beyond 
   count-shown : length (take (at s 10) code) ≡ at s 10
   count-shown = length-take (at s 10) code ∙ omega (arith, code-long s long, r .count)
 
-  -- what AT mode and the second command set add is fresh in it
-  view-kept : Below 256 s → at s 60 ≡ 0 → at s 61 ≡ 0x3F → at s 62 ≡ 3 → at s 63 ≡ 0 → Kept (view s)
-  view-kept bytes options lines latches ttim =
+  -- what AT mode and the second command set add is fresh in it, and its table is one that a start takes
+  view-kept : Below 256 s → at s 60 ≡ 0 → at s 61 ≡ 0x3F → at s 62 ≡ 3 → at s 63 ≡ 0 → tableRefusal (drop 65 s) ≡ 0 → Kept (view s)
+  view-kept bytes options lines latches ttim passes =
       let first : has (at s 60) 2 ≡ false = ap (λ (x : ℕ). has x 2) options in
       record {
         output = bytes 0;
@@ -94,6 +96,8 @@ module _ (s : List ℕ) (long : length s ≡ stateLength) (r : Rules s) (beyond 
         cells = subst (Below 256) (sym (ram-of s long)) (below-take 256 32 (drop 28 s) (omega arith) (below-drop 256 28 s bytes));
         modeByte = r .modeByte;
         version = bytes 64;
+        table = passes;
+        entries = below-drop 256 65 s bytes;
       }
     where
       below : Below 256 (take (at s 10) code)
@@ -196,7 +200,8 @@ module _ (bytes : List ℕ) (z : loadRefusal bytes ≡ 0) where
   made = stateFrom (found bytes)
 
   made-long : length made ≡ stateLength
-  made-long = length-extended (found bytes) found-long behind
+  unfolding fresh
+  made-long = length-extended (found bytes) found-long behind (accepted-length builtIn builtIn-passes)
 
   made-beyond : (k : ℕ) → tidied k (at made (60 + k)) ≡ at made (60 + k)
   made-beyond = tidied-extended (found bytes) found-long behind
@@ -216,6 +221,10 @@ module _ (bytes : List ℕ) (z : loadRefusal bytes ≡ 0) where
   made-ttim : at made 63 ≡ 0
   unfolding fresh nibble
   made-ttim = byte-extended (found bytes) found-long behind 3
+
+  made-table : tableRefusal (drop 65 made) ≡ 0
+  unfolding fresh
+  made-table = ap tableRefusal (table-extended (found bytes) found-long behind) ∙ builtIn-passes
 
   made-rules : Rules made
   made-rules = bodyKept-rules made (bodyKept-front (found bytes) (beyond behind) found-long ∙ accepted bytes z .1)
@@ -242,7 +251,7 @@ module _ (bytes : List ℕ) (z : loadRefusal bytes ≡ 0) where
         accepted = z;
         body = found-body-of;
         machine = λ before. loaded-accepted before bytes z;
-        kept = view-kept made made-long made-rules made-beyond (made-below bound) made-options made-lines made-latches made-ttim;
+        kept = view-kept made made-long made-rules made-beyond (made-below bound) made-options made-lines made-latches made-ttim made-table;
         again =
             ap (sealed 1) (sym found-body-of ∙ found-body bytes ended)
             ∙ sym (lastBytes-sealed 1 bodyLength bytes (ends-sealed 1 bodyLength bytes ended) bound);

@@ -8,7 +8,7 @@ use lib.Dec.{eqb, ltb}
 use lib.ListN.{length, getD, length-append}
 use borrow.Author.Tests.{eqb-true}
 use Rattle.translation.specs.Frames.{Check, sound, parity, broken, noise, check}
-use Rattle.translation.specs.ScanCodes.{Translation, Yielded, nothing, byte, code, builtIn}
+use Rattle.translation.specs.ScanCodes.{Translation, Yielded, nothing, byte, code}
 use Rattle.translation.proofs.ScanCodes.{translate-other}
 use Rattle.translation.proofs.Tests.{split}
 use Rattle.machine.specs.State.{Public, Machine, withLocked, lift}
@@ -188,11 +188,11 @@ keyboardFrame-alike noise h together = h
 
 -- While locked, each byte but F0h is a try.
 soundKey-locked : (b : ℕ) (m : Machine) → m .plain .locked ≡ true → (b ≡ 0xF0 → ⊥)
-    → soundKey b m ≡ translatedKey (record { yields = byte (code (getD builtIn b 0) (m .plain .breaks)); breaks = false }) m
+    → soundKey b m ≡ translatedKey (record { yields = byte (code (getD (m .plain .settings .table) b 0) (m .plain .breaks)); breaks = false }) m
 unfolding soundKey translated
 soundKey-locked b m locked other =
     let always : (translates (m .plain) || m .plain .locked) ≡ true = rw (locked, or-true) in
-    ap (λ (t : Translation). translatedKey t m) (rw (always, translate-other builtIn b (m .plain .breaks) other))
+    ap (λ (t : Translation). translatedKey t m) (rw (always, translate-other (m .plain .settings .table) b (m .plain .breaks) other))
 
 pub keys-alike : {m n : Machine} (b c : ℕ) → m .plain .locked ≡ true → (b ≡ 0xF0 → ⊥) → (c ≡ 0xF0 → ⊥) → Alike m n
     → StillAlike m n (soundKey b m) (soundKey c n)

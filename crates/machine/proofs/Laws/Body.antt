@@ -1,11 +1,11 @@
 -- The bytes of a machine and the machine of bytes: each undoes the other where what stands for nothing is 0. Assumes nothing.
 use mathlib.Core.Path.{_≡_, refl, ap, ap₂, sym, subst, _∙_}
 use mathlib.Core.Bool.{Bool, false}
-use mathlib.Core.List.{List, [], _∷_, _++_, append-assoc}
+use mathlib.Core.List.{List, [], _∷_, _++_, append-assoc, append-nil}
 use Prim.Native.Nat.{ℕ, zero, suc, _+_, _-_, _≤_, _<_}
 use native.Mathlib.Omega.{arith}
-use lib.ListN.{length, getD, take, drop, set, replicate, length-append, length-replicate, length-take, length-drop, take-append-drop}
-use lib.Seq.{take-at, drop-at, take-all, take-append-seam, drop-append-seam, take-add, drop-cons, getD-take, getD-drop}
+use lib.ListN.{length, getD, take, drop, set, replicate, length-append, length-replicate, length-take, length-drop, drop-of-length-le, take-append-drop}
+use lib.Seq.{take-at, drop-at, take-all, drop-drop, take-append-seam, drop-append-seam, take-add, drop-cons, getD-take, getD-drop}
 use Rattle.translation.specs.Bits.{has}
 use Rattle.machine.specs.Settings.{Settings, settingsOf}
 use Rattle.machine.specs.State.{Public, Machine, fresh}
@@ -29,17 +29,17 @@ zeros [] each = refl
 zeros (x ∷ l) each = ap₂ _∷_ (each zero (omega arith)) (zeros l (λ k h. each (suc k) (omega arith)))
 
 -- ---- optionsOf
-pub settings-options : (x : Settings) (b : Bool) → settingsOf (optionsOf x b) (x .version) ≡ x
+pub settings-options : (x : Settings) (b : Bool) → settingsOf (optionsOf x b) (x .version) (x .table) ≡ x
 settings-options x b =
     let a = x .mouseLock in
     let m = x .atMode in
     let c = x .secondSet in
-    λ i. record { mouseLock = nibble-0 a m c b i; atMode = nibble-1 a m c b i; secondSet = nibble-2 a m c b i; version = x .version }
+    λ i. record { mouseLock = nibble-0 a m c b i; atMode = nibble-1 a m c b i; secondSet = nibble-2 a m c b i; version = x .version; table = x .table }
 
 -- ---- beyond
 -- in PS/2 mode with the first command set it goes by the settings alone
 abbrev plainBeyond : Settings → List ℕ
-plainBeyond x = optionsOf x false ∷ 0x3F ∷ 3 ∷ 0 ∷ x .version ∷ []
+plainBeyond x = optionsOf x false ∷ 0x3F ∷ 3 ∷ 0 ∷ x .version ∷ x .table
 
 beyond-plain : (m : Machine) → Kept m → atMode (m .plain) ≡ false → secondSet (m .plain) ≡ false → beyond (m .plain) ≡ plainBeyond (m .plain .settings)
 unfolding nibble
@@ -52,7 +52,7 @@ beyond-plain m k ps2 one =
     ∷ nibble (p22 i) (p23 i) false (k .p25 ps2 i)
     ∷ nibble (k .ttim ps2 i) false false false
     ∷ m .plain .settings .version
-    ∷ []
+    ∷ m .plain .settings .table
 
 pub beyond-same : (m n : Machine) → Kept m → Kept n → m .plain .settings ≡ n .plain .settings → atMode (m .plain) ≡ false → secondSet (m .plain) ≡ false →
     beyond (m .plain) ≡ beyond (n .plain)
@@ -68,11 +68,11 @@ beyond-below m k (suc zero) = omega (arith, k .inputLatches)
 beyond-below m k (suc (suc zero)) = let q = m .plain .ports in omega (arith, nibble-below (q .p22) (q .p23) false (q .p25))
 beyond-below m k (suc (suc (suc zero))) = omega (arith, nibble-below (m .plain .errors .ttim) false false false)
 beyond-below m k (suc (suc (suc (suc zero)))) = k .version
-beyond-below m k (suc (suc (suc (suc (suc j))))) = omega arith
+beyond-below m k (suc (suc (suc (suc (suc j))))) = k .entries j
 
 -- byte 60 + k with what stands for nothing in it 0
 abbrev pub tidied : ℕ → ℕ → ℕ
-tidied zero x = optionsOf (settingsOf x 0) (has x 3)
+tidied zero x = optionsOf (settingsOf x 0 []) (has x 3)
 tidied (suc zero) x = x
 tidied (suc (suc zero)) x = nibble (has x 0) (has x 1) false (has x 3)
 tidied (suc (suc (suc zero))) x = nibble (has x 0) false false false
@@ -87,14 +87,17 @@ tidied-beyond p (suc (suc (suc (suc k)))) = refl
 
 -- a body with it behind
 module _ (b : List ℕ) (long : length b ≡ 60) (p : Public) where
-  pub length-extended : length (b ++ beyond p) ≡ stateLength
-  length-extended = length-append b (beyond p) ∙ omega arith
+  pub length-extended : length (p .settings .table) ≡ 256 → length (b ++ beyond p) ≡ stateLength
+  length-extended whole = length-append b (beyond p) ∙ omega arith
 
   pub take-extended : take 60 (b ++ beyond p) ≡ b
   take-extended = take-at b (beyond p) 60 long
 
   drop-extended : drop 60 (b ++ beyond p) ≡ beyond p
   drop-extended = drop-at b (beyond p) 60 long
+
+  pub table-extended : drop 65 (b ++ beyond p) ≡ p .settings .table
+  table-extended = sym (drop-drop 5 60 (b ++ beyond p)) ∙ ap (drop 5) drop-extended
 
   pub byte-extended : (k : ℕ) → at (b ++ beyond p) (60 + k) ≡ getD (beyond p) k 0
   byte-extended k = sym (getD-drop 60 (b ++ beyond p) k 0) ∙ ap (λ (l : List ℕ). getD l k 0) drop-extended
@@ -125,9 +128,13 @@ module _ (m : Machine) (short : length (m .secret .code) ≤ 16) where
     length-body =
         omega (arith, length-append (head m ++ code-bytes) (m .plain .ram), length-append (head m) code-bytes, length-padded (m .secret .code) short)
 
-    length-state : length (stateOf m) ≡ stateLength
+    length-state : length (m .plain .settings .table) ≡ 256 → length (stateOf m) ≡ stateLength
     unfolding stateOf
     length-state = length-extended (body m) length-body (m .plain)
+
+    some-state : 60 ≤ length (stateOf m)
+    unfolding stateOf
+    some-state = omega (arith, length-append (body m) (beyond (m .plain)), length-body)
 
     -- an image's body is the front of it
     take-body : take 60 (stateOf m) ≡ body m
@@ -138,9 +145,13 @@ module _ (m : Machine) (short : length (m .secret .code) ≤ 16) where
     unfolding stateOf
     drop-body = drop-extended (body m) length-body (m .plain)
 
+    table-part : drop 65 (stateOf m) ≡ m .plain .settings .table
+    unfolding stateOf
+    table-part = table-extended (body m) length-body (m .plain)
+
     pub ram-part : at (stateOf m) 28 ∷ take 31 (drop 29 (stateOf m)) ≡ m .plain .ram
     ram-part =
-        ap (take 32) (sym (drop-cons (stateOf m) 28 0 (omega (arith, length-state))) ∙ drop-28) ∙ take-at (m .plain .ram) (beyond (m .plain)) 32 cells
+        ap (take 32) (sym (drop-cons (stateOf m) 28 0 (omega (arith, some-state))) ∙ drop-28) ∙ take-at (m .plain .ram) (beyond (m .plain)) 32 cells
 
     -- the machine of a machine's bytes is the machine
     pub view-state : view (stateOf m) ≡ m
@@ -154,7 +165,8 @@ module _ (m : Machine) (short : length (m .secret .code) ≤ 16) where
         let behind : (k : ℕ) → at (stateOf m) (60 + k) ≡ getD (beyond p) k 0 = byte-extended (body m) length-body p in
         let q = p .ports in
         let x = p .settings in
-        let settings : settingsOf (at (stateOf m) 60) (at (stateOf m) 64) ≡ x = ap₂ settingsOf (behind 0) (behind 4) ∙ settings-options x (q .highAllowed) in
+        let settings : settingsOf (at (stateOf m) 60) (at (stateOf m) 64) (drop 65 (stateOf m)) ≡ x =
+        (λ i. settingsOf (behind 0 i) (behind 4 i) (table-part i)) ∙ settings-options x (q .highAllowed) in
         let allowed : has (at (stateOf m) 60) 3 ≡ q .highAllowed =
         ap (λ (n : ℕ). has n 3) (behind 0) ∙ nibble-3 (x .mouseLock) (x .atMode) (x .secondSet) (q .highAllowed) in
         let latch : (k : ℕ) → has (at (stateOf m) 62) k ≡ has (highLatches p) k = λ k. ap (λ (x : ℕ). has x k) (behind 2) in
@@ -186,20 +198,32 @@ module _ (m : Machine) (short : length (m .secret .code) ≤ 16) where
           secret = record { code = code i; position = m .secret .position };
         }
 
+-- ---- the key table in its place
+-- 256 bytes copied over the last of a state, as the copy gives its part back
+pub table-put : (s t : List ℕ) {ys : List ℕ} → length s ≡ stateLength → length t ≡ 256 → ys ≡ take (length t) t ++ drop (length t) (take 256 (drop 65 s)) →
+    take 65 s ++ (ys ++ drop 256 (drop 65 s)) ≡ take 65 s ++ t
+table-put s t {ys} long whole copied =
+    let none : drop 256 (drop 65 s) ≡ [] = drop-of-length-le (drop 65 s) {i = 256} (simp length-drop (omega arith)) in
+    let past : drop (length t) (take 256 (drop 65 s)) ≡ [] = drop-of-length-le (take 256 (drop 65 s)) {i = length t} (simp length-take (omega arith)) in
+    let all : ys ≡ t =
+    copied ∙ ap (λ (r : List ℕ). take (length t) t ++ r) past ∙ append-nil (take (length t) t) ∙ take-all (length t) t (omega arith) in
+    ap₂ (λ (x y : List ℕ). take 65 s ++ (x ++ y)) all none ∙ ap (λ (r : List ℕ). take 65 s ++ r) (append-nil t)
+
 -- ---- fresh
 -- the bytes that a start stores
-abbrev pub started : ℕ → ℕ → List ℕ
-started options version = set (set (set (set (set (set (set (replicate 65 0) 2 0xFF) 3 3) 28 0x70) 60 options) 61 0x3F) 62 3) 64 version
+abbrev pub started : ℕ → ℕ → List ℕ → List ℕ
+started options version table =
+    take 65 (set (set (set (set (set (set (set (replicate 321 0) 2 0xFF) 3 3) 28 0x70) 60 options) 61 0x3F) 62 3) 64 version) ++ table
 
-started-state : (x : Settings) → started (optionsOf x false) (x .version) ≡ stateOf (fresh x)
+started-state : (x : Settings) → started (optionsOf x false) (x .version) (x .table) ≡ stateOf (fresh x)
 unfolding stateOf body fresh nibble
 started-state x = refl
 
-pub fresh-started : (x : Settings) {options : ℕ} → options ≡ optionsOf x false →
-    (started options (x .version) ≡ stateOf (fresh x)) × (view (started options (x .version)) ≡ fresh x)
+pub fresh-started : (x : Settings) {options : ℕ} {s : List ℕ} → options ≡ optionsOf x false → s ≡ started options (x .version) (x .table) →
+    (s ≡ stateOf (fresh x)) × (view s ≡ fresh x)
 unfolding fresh
-fresh-started x same =
-    let bytes = ap (λ (n : ℕ). started n (x .version)) same ∙ started-state x in
+fresh-started x same stored =
+    let bytes = stored ∙ ap (λ (n : ℕ). started n (x .version) (x .table)) same ∙ started-state x in
     (bytes, ap view bytes ∙ view-state (fresh x) (omega arith) refl)
 
 -- ---- what stands for nothing is 0
@@ -268,17 +292,17 @@ module _ (s : List ℕ) (t : Tidy s) where
       ∙ ap (λ (x : List ℕ). x ++ take 32 (drop 28 s)) (sym (take-add 12 16 s))
       ∙ sym (take-add 28 32 s)
 
-  beyond-view : beyond (view s .plain) ≡ listed 60 5 s
-  beyond-view = λ i. t .beyond 0 i ∷ at s 61 ∷ t .beyond 2 i ∷ t .beyond 3 i ∷ at s 64 ∷ []
+  beyond-view : beyond (view s .plain) ≡ listed 60 5 s ++ drop 65 s
+  beyond-view = λ i. t .beyond 0 i ∷ at s 61 ∷ t .beyond 2 i ∷ t .beyond 3 i ∷ at s 64 ∷ drop 65 s
 
   pub tidy-state : IsState s
   unfolding stateOf
   tidy-state =
       sym
       (ap₂ (λ (x y : List ℕ). x ++ y) body-view beyond-view
-      ∙ ap (λ (x : List ℕ). take 60 s ++ x) (sym (take-listed 60 5 s (omega arith)))
-      ∙ sym (take-add 60 5 s)
-      ∙ take-all 65 s (omega arith))
+      ∙ ap₂ (λ (x y : List ℕ). take 60 s ++ (x ++ y)) (sym (take-listed 60 5 s (omega arith))) (sym (drop-drop 5 60 s))
+      ∙ ap (λ (x : List ℕ). take 60 s ++ x) (take-append-drop 5 (drop 60 s))
+      ∙ take-append-drop 60 s)
 
 -- and the other way round
 module _ (s : List ℕ) (long : length s ≡ stateLength) where
@@ -294,7 +318,7 @@ module _ (s : List ℕ) (long : length s ≡ stateLength) where
       let m = view s in
       let c = m .secret .code in
       record {
-        long = length-state m short cells;
+        long = length-state m short cells (length-drop 65 s ∙ omega arith);
         flags = flags-below (m .plain);
         latches = latches-below (m .plain .ports .p20) (m .plain .ports .p21);
         overlay = omega (arith, overlay-below (m .plain .host .overlay));

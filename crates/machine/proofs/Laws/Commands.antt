@@ -63,15 +63,19 @@ understood-known x c =
     none : leftOut x 0 ≡ false
     none = split (x .secondSet) (λ t. simp (t, bool.and-false)) (λ t. simp (t, bool.and-false))
 
-module _ (x : Settings) (c : ℕ) {at′ only other : Bool} (isAt : at′ ≡ x .atMode) (isOnly : only ≡ ps2Only c) (isOther : other ≡ notInSet x c) where
-  abbrev same : ((at′ && only) || other) ≡ leftOut x c
-  same = λ i. (isAt i && isOnly i) || isOther i
+module _ (x : Settings) (c : ℕ) {hidden : Bool} (isHidden : hidden ≡ (x .atMode && ps2Only c)) where
+  pub understood-hidden : hidden ≡ true → 0 ≡ understood x c
+  understood-hidden h = simp (sym isHidden ∙ h)
 
-  pub understood-none : ((at′ && only) || other) ≡ true → 0 ≡ understood x c
-  understood-none h = ap (λ (t : Bool). cond t 0 c) (sym h ∙ same)
+  module _ {other : Bool} (isOther : other ≡ notInSet x c) (shown : hidden ≡ false) where
+    abbrev same : other ≡ leftOut x c
+    same = λ i. (sym shown ∙ isHidden) i || isOther i
 
-  pub understood-same : ((at′ && only) || other) ≡ false → c ≡ understood x c
-  understood-same h = ap (λ (t : Bool). cond t 0 c) (sym h ∙ same)
+    pub understood-none : other ≡ true → 0 ≡ understood x c
+    understood-none h = ap (λ (t : Bool). cond t 0 c) (sym h ∙ same)
+
+    pub understood-same : other ≡ false → c ≡ understood x c
+    understood-same h = ap (λ (t : Bool). cond t 0 c) (sym h ∙ same)
 
 -- ---- polled
 module _ (n : ℕ) (p : Public) {second : Bool} (isSecond : second ≡ secondSet p) where

@@ -1,6 +1,6 @@
 -- The machine's lock opens by the rule over all keys counted, from a fresh start and from an image, for every list of events.
 -- Assumes nothing.
-use Prim.Native.Nat.{ℕ, _<_}
+use Prim.Native.Nat.{ℕ}
 use mathlib.Core.Path.{_≡_, refl, ap, sym, _∙_, subst}
 use mathlib.Core.Bool.{Bool, true, false, cond, not, _&&_, _||_, and-false}
 use mathlib.Core.List.{List, [], _∷_}
@@ -27,6 +27,7 @@ use Rattle.machine.proofs.Laws.Cond.{cond-holds, cond-both, not-both}
 use Rattle.machine.proofs.Laws.Lock.{reached-none, reached-begun, reached-next, opening-next}
 use Rattle.machine.proofs.Laws.Events.{accepted-write, accept-keyboard, accept-holds, step-accepted, step-refused}
 use Rattle.machine.proofs.Laws.Alike.{putCell-locked}
+use Rattle.machine.proofs.Laws.KeptParts.{SettingsKept}
 use Rattle.machine.proofs.Laws.Kept.{keeps, fresh-kept}
 
 -- ---- locked, what an event leaves: the lock as the rule has it, and if it is closed the position that the keys lead to
@@ -213,6 +214,6 @@ lock-by-rule m k =
     (record { kept = k; follows = λ l. sym (reached-begun (m .secret .code) (m .secret .position) (k .locked l .0)) })
 
 -- From fresh no key has been counted.
-pub lock-by-rule-fresh : (x : Settings) → x .version < 256 → (es : List Event) → ByRule (after (fresh x) es) (keysAfter (fresh x) es [])
+pub lock-by-rule-fresh : (x : Settings) → SettingsKept x → (es : List Event) → ByRule (after (fresh x) es) (keysAfter (fresh x) es [])
 unfolding fresh begun
-lock-by-rule-fresh x low = lock-by-rule (fresh x) (fresh-kept x low)
+lock-by-rule-fresh x k = lock-by-rule (fresh x) (fresh-kept x k)

@@ -5,7 +5,7 @@ use mathlib.Core.List.{_∷_}
 use Prim.Native.Nat.{ℕ}
 use lib.ListN.{length}
 use borrow.Author.Tests.{eq-eqb, ne-eqb}
-use Rattle.translation.specs.ScanCodes.{Translation, translate, raw, builtIn}
+use Rattle.translation.specs.ScanCodes.{Translation, translate, raw}
 use Rattle.machine.specs.State.{Public, Machine, lift}
 use Rattle.machine.specs.Lock.{longest, begun}
 use Rattle.machine.specs.Lines.{inhibited, mouseInhibited, translates, put, putMouse}
@@ -56,7 +56,7 @@ module _ (m : Machine) (x : ℕ) {none : Bool} (isNone : none ≡ ignored x (m .
 
 -- ---- translated
 module _ (p : Public) (b : ℕ) {t : Translation} {translating shut : Bool} (isOn : translating ≡ translates p) (isShut : shut ≡ p .locked) where
-  pub translated-on : {breaks : Bool} → (translating || shut) ≡ true → t ≡ translate builtIn b breaks → breaks ≡ p .breaks → t ≡ translated b p
+  pub translated-on : {breaks : Bool} → (translating || shut) ≡ true → t ≡ translate (p .settings .table) b breaks → breaks ≡ p .breaks → t ≡ translated b p
   unfolding translated
   translated-on h made isBreaks = made ∙ simp (simp (isOn, isShut) at h, isBreaks)
 

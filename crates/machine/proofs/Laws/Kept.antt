@@ -8,6 +8,7 @@ use lib.ListN.{getD}
 use borrow.Author.Tests.{eqb-true}
 use Rattle.translation.specs.Frames.{check, sound}
 use Rattle.translation.proofs.Frame.{check-sound}
+use Rattle.translation.proofs.KeyTable.{builtIn-passes, builtIn-below}
 use Rattle.machine.specs.Settings.{Settings, ordinary}
 use Rattle.machine.specs.State.{Machine, fresh, lift}
 use Rattle.machine.specs.DataPort.{writeData}
@@ -18,7 +19,7 @@ use Rattle.machine.specs.Kept.{Kept}
 use Rattle.machine.proofs.Laws.Cond.{cond-holds, not-both}
 use Rattle.machine.proofs.Laws.Bounds.{getD-zeros}
 use Rattle.machine.proofs.Laws.Events.{accepted-byte, accepted-write, accept-holds}
-use Rattle.machine.proofs.Laws.KeptParts.{RamKept, grouped-kept, withOutput-kept}
+use Rattle.machine.proofs.Laws.KeptParts.{RamKept, SettingsKept, grouped-kept, withOutput-kept}
 use Rattle.machine.proofs.Laws.KeptDataPort.{writeData-kept}
 use Rattle.machine.proofs.Laws.KeptCommands.{writeCommand-kept}
 use Rattle.machine.proofs.Laws.KeptFrames.{keyboardFrame-kept, mouseFrame-kept, taken-kept, timedOut-kept, pinned-kept}
@@ -33,9 +34,9 @@ module _ (x : Settings) where
       cells zero = omega arith
       cells (suc k) = omega (arith, getD-zeros 31 k)
 
-  pub fresh-kept : x .version < 256 → Kept (fresh x)
+  pub fresh-kept : SettingsKept x → Kept (fresh x)
   unfolding fresh
-  fresh-kept byte =
+  fresh-kept settings =
       grouped-kept (fresh x) (omega arith, λ e. e) (λ _. refl)
       (omega arith, omega arith, λ _. refl, omega arith, λ _. refl, λ _. refl, λ _ e. omega arith)
       (omega arith, λ _ _. (refl, refl), λ _. refl, λ _. (refl, refl), omega arith)
@@ -43,10 +44,10 @@ module _ (x : Settings) where
       fresh-ram-kept
       (omega arith, omega arith, λ _. refl)
       (λ l. not-both l refl, λ _. refl)
-      byte
+      settings
 
 pub ordinary-kept : Kept (fresh ordinary)
-ordinary-kept = fresh-kept ordinary (omega arith)
+ordinary-kept = fresh-kept ordinary (omega arith, builtIn-passes, builtIn-below)
 
 -- ---- emptied, accept, step
 pub emptied-kept : {m : Machine} → Kept m → Kept (lift emptied m)

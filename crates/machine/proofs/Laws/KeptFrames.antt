@@ -6,9 +6,10 @@ use mathlib.Core.Bool.{Bool, true, false, _||_}
 use mathlib.Core.List.{List}
 use native.Mathlib.Omega.{arith}
 use lib.Dec.{eqb}
+use lib.ListN.{getD}
 use Rattle.translation.specs.Frames.{Check, sound, parity, broken, noise}
 use Rattle.translation.specs.ScanCodes.{Translation, Yielded, nothing, byte, raw}
-use Rattle.translation.proofs.ScanCodes.{translate-builtIn-below}
+use Rattle.translation.proofs.ScanCodes.{translate-below}
 use Rattle.machine.specs.State.{Public, Machine, lift}
 use Rattle.machine.specs.Lines.{inhibited, mouseInhibited, translates}
 use Rattle.machine.specs.Frames.{notTaken, positioned, keyError, damagedKey, ignored, opened}
@@ -55,11 +56,11 @@ pub damagedKey-kept : {m : Machine} → Kept m → (t e : Bool) → Kept (damage
 damagedKey-kept k t e = positioned-zero-kept (keyError-kept (withBreaks-kept (withErrors-kept k _ (λ _. refl)) false))
 
 -- ---- translated, keyed, keyedByte, soundKey
-pub translated-below : (b : ℕ) (p : Public) → b < 256 → (x : ℕ) → translated b p .yields ≡ byte x → x < 256
+pub translated-below : (b : ℕ) (p : Public) → ((k : ℕ) → getD (p .settings .table) k 0 < 256) → b < 256 → (x : ℕ) → translated b p .yields ≡ byte x → x < 256
 unfolding translated raw
-translated-below b p small =
+translated-below b p bytes small =
     cond-holds (λ (t : Translation). (x : ℕ) → t .yields ≡ byte x → x < 256) (translates p || p .locked)
-    (λ _. translate-builtIn-below b (p .breaks)) (λ _ x e. let same : b ≡ x = cc in omega arith)
+    (λ _. translate-below (p .settings .table) bytes b (p .breaks)) (λ _ x e. let same : b ≡ x = cc in omega arith)
 
 pub keyed-kept : {m : Machine} → Kept m → (y : Yielded) → ((x : ℕ) → y ≡ byte x → x < 256) → Kept (keyed y m)
 unfolding keyed keyedByte
@@ -71,7 +72,7 @@ keyed-kept {m} k (byte x) small =
 pub soundKey-kept : {m : Machine} → Kept m → (b : ℕ) → b < 256 → Kept (soundKey b m)
 unfolding soundKey
 soundKey-kept {m} k b small =
-    keyed-kept (withBreaks-kept (withErrors-kept k _ (λ _. refl)) _) _ (translated-below b (m .plain) small)
+    keyed-kept (withBreaks-kept (withErrors-kept k _ (λ _. refl)) _) _ (translated-below b (m .plain) (k .entries) small)
 
 -- ---- keyboardFrame
 pub keyboardFrame-kept : {m : Machine} → Kept m → (c : Check) → ((b : ℕ) → c ≡ sound b → b < 256) → Kept (keyboardFrame c m)

@@ -6,6 +6,7 @@ use mathlib.Core.Bool.{Bool, true, false}
 use mathlib.Core.List.{List, []}
 use lib.ListN.{length, getD}
 use Rattle.translation.specs.Bits.{has}
+use Rattle.translation.specs.KeyTable.{tableRefusal}
 use Rattle.machine.specs.Settings.{Settings}
 use Rattle.machine.specs.State.{Output, Errors, Host, Ports, Sending, Machine, lift}
 use Rattle.machine.specs.State.{withOutput, withErrors, withHost, withPorts, withSending, withBreaks, withLocked, withRam, withSecret}
@@ -48,6 +49,9 @@ CodeKept x c = (length c ≤ 16) × ((k : ℕ) → k < length c → (1 ≤ getD 
 abbrev pub RamKept : List ℕ → Type 0
 RamKept r = (length r ≡ 32) × ((k : ℕ) → getD r k 0 < 256) × (getD r 0 0 < 128)
 
+abbrev pub SettingsKept : Settings → Type 0
+SettingsKept x = (x .version < 256) × (tableRefusal (x .table) ≡ 0) × ((b : ℕ) → getD (x .table) b 0 < 256)
+
 abbrev pub LockKept : Machine → Type 0
 LockKept m =
     (m .plain .locked ≡ true → (m .secret .position < length (m .secret .code)) × (m .plain .host .pending ≡ 0) × (m .plain .sending .to ≡ 0))
@@ -64,9 +68,9 @@ pub grouped-kept : (m : Machine) →
     RamKept (m .plain .ram) →
     CodeKept (m .plain .settings) (m .secret .code) →
     LockKept m →
-    m .plain .settings .version < 256 →
+    SettingsKept (m .plain .settings) →
     Kept m
-grouped-kept m o e h p s r c l v =
+grouped-kept m o e h p s r c l x =
     record {
       output = o .0;
       source = o .1;
@@ -94,7 +98,9 @@ grouped-kept m o e h p s r c l v =
       ram = r .0;
       cells = r .1;
       modeByte = r .2;
-      version = v;
+      version = x .0;
+      table = x .1;
+      entries = x .2;
     }
 
 -- and the other way round
@@ -120,6 +126,9 @@ module _ {m : Machine} (k : Kept m) where
   pub kept-code : CodeKept (m .plain .settings) (m .secret .code)
   kept-code = (k .code, k .codeBytes, k .noCode)
 
+  pub kept-settings : SettingsKept (m .plain .settings)
+  kept-settings = (k .version, k .table, k .entries)
+
   pub kept-lock : LockKept m
   kept-lock = (k .locked, k .unlocked)
 
@@ -131,42 +140,42 @@ withLock b i m = record { plain = withLocked (m .plain) b; secret = record { cod
 module _ {m : Machine} (k : Kept m) where
   pub withOutput-kept : (o : Output) → OutputKept o → Kept (lift (λ p. withOutput p o) m)
   withOutput-kept o new =
-      grouped-kept _ new (kept-errors k) (kept-host k) (kept-ports k) (kept-sending k) (kept-ram k) (kept-code k) (kept-lock k) (k .version)
+      grouped-kept _ new (kept-errors k) (kept-host k) (kept-ports k) (kept-sending k) (kept-ram k) (kept-code k) (kept-lock k) (kept-settings k)
 
   pub withErrors-kept : (x : Errors) → ErrorsKept (m .plain .settings) x → Kept (lift (λ p. withErrors p x) m)
   withErrors-kept x new =
-      grouped-kept _ (kept-output k) new (kept-host k) (kept-ports k) (kept-sending k) (kept-ram k) (kept-code k) (kept-lock k) (k .version)
+      grouped-kept _ (kept-output k) new (kept-host k) (kept-ports k) (kept-sending k) (kept-ram k) (kept-code k) (kept-lock k) (kept-settings k)
 
   pub withBreaks-kept : (b : Bool) → Kept (lift (λ p. withBreaks p b) m)
   withBreaks-kept b =
-      grouped-kept _ (kept-output k) (kept-errors k) (kept-host k) (kept-ports k) (kept-sending k) (kept-ram k) (kept-code k) (kept-lock k) (k .version)
+      grouped-kept _ (kept-output k) (kept-errors k) (kept-host k) (kept-ports k) (kept-sending k) (kept-ram k) (kept-code k) (kept-lock k) (kept-settings k)
 
   pub withPorts-kept : (x : Ports) → PortsKept (m .plain .settings) x → Kept (lift (λ p. withPorts p x) m)
   withPorts-kept x new =
-      grouped-kept _ (kept-output k) (kept-errors k) (kept-host k) new (kept-sending k) (kept-ram k) (kept-code k) (kept-lock k) (k .version)
+      grouped-kept _ (kept-output k) (kept-errors k) (kept-host k) new (kept-sending k) (kept-ram k) (kept-code k) (kept-lock k) (kept-settings k)
 
   pub withRam-kept : (r : List ℕ) → RamKept r → Kept (lift (λ p. withRam p r) m)
   withRam-kept r new =
-      grouped-kept _ (kept-output k) (kept-errors k) (kept-host k) (kept-ports k) (kept-sending k) new (kept-code k) (kept-lock k) (k .version)
+      grouped-kept _ (kept-output k) (kept-errors k) (kept-host k) (kept-ports k) (kept-sending k) new (kept-code k) (kept-lock k) (kept-settings k)
 
   pub withHost-kept : (h : Host) → HostKept (m .plain .settings) h → (m .plain .locked ≡ true → h .pending ≡ 0) → Kept (lift (λ p. withHost p h) m)
   withHost-kept h new none =
       grouped-kept _ (kept-output k) (kept-errors k) new (kept-ports k) (kept-sending k) (kept-ram k) (kept-code k)
-      (λ l. (k .locked l .0, none l, k .locked l .2), k .unlocked) (k .version)
+      (λ l. (k .locked l .0, none l, k .locked l .2), k .unlocked) (kept-settings k)
 
   pub withSending-kept : (s : Sending) → SendingKept s → (m .plain .locked ≡ true → s .to ≡ 0) → Kept (lift (λ p. withSending p s) m)
   withSending-kept s new nobody =
       grouped-kept _ (kept-output k) (kept-errors k) (kept-host k) (kept-ports k) new (kept-ram k) (kept-code k)
-      (λ l. (k .locked l .0, k .locked l .1, nobody l), k .unlocked) (k .version)
+      (λ l. (k .locked l .0, k .locked l .1, nobody l), k .unlocked) (kept-settings k)
 
   -- a lock code is changed only while not locked
   pub withCode-kept : (c : List ℕ) → CodeKept (m .plain .settings) c → m .plain .locked ≡ false →
       Kept (withSecret m (record { code = c; position = m .secret .position }))
   withCode-kept c new unlocked =
       grouped-kept _ (kept-output k) (kept-errors k) (kept-host k) (kept-ports k) (kept-sending k) (kept-ram k) new
-      (λ l. not-both l unlocked, k .unlocked) (k .version)
+      (λ l. not-both l unlocked, k .unlocked) (kept-settings k)
 
   -- locked or not, with the position that goes with it
   pub withLock-kept : (b : Bool) (i : ℕ) → LockKept (withLock b i m) → Kept (withLock b i m)
   withLock-kept b i new =
-      grouped-kept _ (kept-output k) (kept-errors k) (kept-host k) (kept-ports k) (kept-sending k) (kept-ram k) (kept-code k) new (k .version)
+      grouped-kept _ (kept-output k) (kept-errors k) (kept-host k) (kept-ports k) (kept-sending k) (kept-ram k) (kept-code k) new (kept-settings k)

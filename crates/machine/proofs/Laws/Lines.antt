@@ -195,6 +195,11 @@ cellOf-at s k long h = sym (ap (λ (xs : List ℕ). getD xs k 0) (ram-of s long)
 pub cellOf-none : (s : List ℕ) (k : ℕ) → length s ≡ stateLength → 32 ≤ k → 0 ≡ cellOf (public s) k
 cellOf-none s k long h = sym (ap (λ (xs : List ℕ). getD xs k 0) (ram-of s long) ∙ List·getD-eq-default (take 32 (drop 28 s)) 0 (simp length-take (omega arith)))
 
+-- ---- the key table
+-- an entry stands behind the first 65 bytes
+pub entry-at : (s : List ℕ) (b : ℕ) → getD s (65 + b) 0 ≡ getD (public s .settings .table) b 0
+entry-at s b = sym (getD-drop 65 s b 0)
+
 -- ---- putCell
 module _ (m : Machine) (k : ℕ) {b : ℕ} (read : b ≡ cellOf (m .plain) k) where
   pub putCell-zero : b ≡ 0 → m ≡ lift (putCell k) m

@@ -1,6 +1,5 @@
 -- In PS/2 mode with the first command set every rule is document 01's, at each place of every list that runs from fresh. Assumes nothing.
 use mathlib.Core.Path.{_≡_, ap, sym, _∙_}
-use Prim.Native.Nat.{_<_}
 use mathlib.Core.Bool.{Bool, false, and-false, and-true}
 use mathlib.Core.List.{List}
 use Rattle.machine.specs.Settings.{Settings}
@@ -13,6 +12,7 @@ use Rattle.machine.specs.Run.{after}
 use Rattle.machine.specs.Kept.{Kept}
 use Rattle.machine.specs.Modes.{Ps2Rules}
 use Rattle.machine.proofs.Laws.SecondSet.{second-none}
+use Rattle.machine.proofs.Laws.KeptParts.{SettingsKept}
 use Rattle.machine.proofs.Laws.Kept.{fresh-kept}
 use Rattle.machine.proofs.Laws.Settings.{fresh-settings, after-settings}
 use Rattle.machine.proofs.Laws.Run.{after-kept}
@@ -37,8 +37,8 @@ ps2-rules m k ps2 one =
       checks = λ n. simp (ps2, and-false);
     }
 
-pub ps2-run : (x : Settings) → x .version < 256 → x .atMode ≡ false → x .secondSet ≡ false → (es : List Event) → Ps2Rules (after (fresh x) es)
-ps2-run x byte ps2 one es =
+pub ps2-run : (x : Settings) → SettingsKept x → x .atMode ≡ false → x .secondSet ≡ false → (es : List Event) → Ps2Rules (after (fresh x) es)
+ps2-run x k ps2 one es =
     let same : after (fresh x) es .plain .settings ≡ x = after-settings (fresh x) es ∙ fresh-settings x in
-    ps2-rules (after (fresh x) es) (after-kept (fresh x) es (fresh-kept x byte)) (ap (λ (y : Settings). y .atMode) same ∙ ps2)
+    ps2-rules (after (fresh x) es) (after-kept (fresh x) es (fresh-kept x k)) (ap (λ (y : Settings). y .atMode) same ∙ ps2)
     (ap (λ (y : Settings). y .secondSet) same ∙ one)

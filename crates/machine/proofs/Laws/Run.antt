@@ -1,13 +1,13 @@
 -- Laws of the definitions in specs/Run: bytes as events, lists laid end to end, the answers' lengths, the answer buffer, and what a call's
 -- refusal goes by. Assumes nothing.
-use Prim.Native.Nat.{ℕ, zero, suc, _+_, _*_, _-_, _/_, _%_, _≤_, _<_}
-use mathlib.Core.Path.{_≡_, refl, ap, ap₂, sym, _∙_}
+use Prim.Native.Nat.{ℕ, suc, _+_, _*_, _-_, _/_, _%_, _≤_, _<_}
+use mathlib.Core.Path.{_≡_, refl, ap, sym, _∙_}
 use mathlib.Core.Bool.{not, _||_}
 use mathlib.Core.List.{List, [], _∷_, _++_, append-assoc, append-nil}
 use native.Mathlib.Omega.{arith}
 use lib.Dec.{eqb, ltb}
-use lib.ListN.{length, take, drop, length-append, length-drop, length-take}
-use lib.Seq.{take-nil, take-at, take-all, drop-drop, take-append-add}
+use lib.ListN.{length, take, drop, length-append, length-drop}
+use lib.Seq.{take-nil, take-at, take-all, drop-drop}
 use borrow.Author.Tests.{ltb-false}
 use Rattle.machine.specs.State.{Machine}
 use Rattle.machine.specs.Events.{Event, event, step, answer, reply, lines, refusal}
@@ -39,17 +39,6 @@ length-events (k ∷ l ∷ []) = refl
 length-events (k ∷ l ∷ h ∷ rest) =
     let one : suc (suc (suc (length rest))) / 3 ≡ suc (length rest / 3) = omega arith in
     ap suc (length-events rest) ∙ sym one
-
--- the first n events of a list, and the rest
-pub events-split : (n : ℕ) (list : List ℕ) → 3 * n ≤ length list → events list ≡ events (take (3 * n) list) ++ events (drop (3 * n) list)
-unfolding events
-events-split zero list h = refl
-events-split (suc n) [] h = absurd (omega arith)
-events-split (suc n) (k ∷ []) h = absurd (omega arith)
-events-split (suc n) (k ∷ l ∷ []) h = absurd (omega arith)
-events-split (suc n) (k ∷ l ∷ h ∷ rest) room =
-    let more : 3 * suc n ≡ suc (suc (suc (3 * n))) = omega arith in
-    rw more (ap (λ (es : List Event). event k l h ∷ es) (events-split n rest (omega arith)))
 
 -- ---- after
 pub after-last : (m : Machine) (es : List Event) (e : Event) → after m (es ++ (e ∷ [])) ≡ step (after m es) e
@@ -112,28 +101,7 @@ fitting-all list space a =
     let enough : length list / 3 * 9 ≤ length space = ltb-false (length space) (length list / 3 * 9) room in
     take-all (length space / 9) (events list) (rw (length-events list) (omega arith))
 
--- a list whose first n events and their answers have room
-module _ (n : ℕ) (list space : List ℕ) (some : 3 * n ≤ length list) (room : 9 * n ≤ length space) where
-  abbrev piece : List Event
-  piece = events (take (3 * n) list)
-
-  pub length-piece : length piece ≡ n
-  length-piece = length-events (take (3 * n) list) ∙ simp length-take (omega arith)
-
-  pub fitting-piece : fitting (take (3 * n) list) space ≡ piece
-  fitting-piece = take-all (length space / 9) piece (omega (arith, length-piece))
-
-  pub fitting-split : fitting list space ≡ piece ++ fitting (drop (3 * n) list) (drop (9 * n) space)
-  fitting-split =
-      let count : length space / 9 ≡ length piece + length (drop (9 * n) space) / 9 = simp length-drop (omega (arith, length-piece)) in
-      ap₂ (λ (k : ℕ) (es : List Event). take k es) count (events-split n list some)
-      ∙ take-append-add piece (events (drop (3 * n) list)) (length (drop (9 * n) space) / 9)
-
 -- ---- filled
-pub filled-parts : (m : Machine) (es : List Event) (space : List ℕ) → filled m es space ≡ answers m es ++ drop (9 * length es) space
-unfolding filled
-filled-parts m es space = refl
-
 pub filled-none : (m : Machine) (space : List ℕ) → filled m [] space ≡ space
 unfolding filled answers
 filled-none m space = refl
@@ -149,16 +117,6 @@ filled-more m e es space =
 pub take-filled : (m : Machine) (es : List Event) (space : List ℕ) → take (9 * length es) (filled m es space) ≡ answers m es
 unfolding filled
 take-filled m es space = take-at (answers m es) (drop (9 * length es) space) (9 * length es) (length-answers m es)
-
--- two lists laid end to end: the second's answers stand behind the first's
-pub filled-append : (m : Machine) (es fs : List Event) (space : List ℕ) →
-    filled m (es ++ fs) space ≡ answers m es ++ filled (after m es) fs (drop (9 * length es) space)
-unfolding filled
-filled-append m es fs space =
-    let far : 9 * length (es ++ fs) ≡ 9 * length es + 9 * length fs = simp length-append (omega arith) in
-    ap₂ (λ (a b : List ℕ). a ++ b) (answers-append m es fs) (ap (λ (n : ℕ). drop n space) far)
-    ∙ append-assoc (answers m es) (answers (after m es) fs) (drop (9 * length es + 9 * length fs) space)
-    ∙ ap (λ (d : List ℕ). answers m es ++ (answers (after m es) fs ++ d)) (sym (drop-drop (9 * length fs) (9 * length es) space))
 
 -- ---- listRefusal
 -- lists of one length, with answer buffers of one length, are refused by one number

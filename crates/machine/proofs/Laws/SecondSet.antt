@@ -1,16 +1,29 @@
 -- Laws of the definitions in specs/SecondSet. Assumes nothing.
-use mathlib.Core.Path.{_≡_, refl, ap, sym, _∙_}
-use mathlib.Core.Bool.{Bool, true, false}
-use Prim.Native.Nat.{ℕ, _%_, _≤_, _<_}
+use mathlib.Core.Path.{_≡_, refl, ap, sym, subst, _∙_}
+use mathlib.Core.Bool.{Bool, true, false, not}
+use Prim.Native.Nat.{ℕ, _+_, _-_, _%_, _≤_, _<_}
 use native.Mathlib.Omega.{arith}
 use lib.Dec.{eqb, leb}
-use borrow.Author.Tests.{ne-eqb}
+use borrow.Author.Tests.{ne-eqb, not-true}
 use Rattle.machine.specs.State.{Public, Machine, lift}
 use Rattle.machine.specs.Lines.{within}
 use Rattle.machine.specs.DataPort.{highLatched}
 use Rattle.machine.specs.SecondSet.{inputLineWritten, lowLinesWritten, lineWritten, permitted, outputLinesSet}
 use Rattle.machine.specs.SecondSet.{secondOnly, modePut, versionPut, singleCommand, secondCommand}
+use Rattle.translation.proofs.Tests.{every, every-below}
 use Rattle.machine.proofs.Laws.Cond.{not-both, or-false}
+
+-- ---- secondOnly: a test computed at each of n commands from one on holds of every command among them
+from-on : (f : ℕ → Bool) (first n : ℕ) → every (λ k. f (first + k)) n ≡ true → (c : ℕ) → first ≤ c → c < first + n → f c ≡ true
+from-on f first n passed c low high =
+    let at : first + (c - first) ≡ c = omega arith in
+    subst (λ (k : ℕ). f k ≡ true) at (every-below (λ k. f (first + k)) n passed (c - first) (omega arith))
+
+pub second-are : (first n : ℕ) → every (λ k. secondOnly (first + k)) n ≡ true → (c : ℕ) → first ≤ c → c < first + n → true ≡ secondOnly c
+second-are first n passed c low high = sym (from-on secondOnly first n passed c low high)
+
+pub second-none-are : (first n : ℕ) → every (λ k. not (secondOnly (first + k))) n ≡ true → (c : ℕ) → first ≤ c → c < first + n → false ≡ secondOnly c
+second-none-are first n passed c low high = sym (not-true _ (from-on (λ k. not (secondOnly k)) first n passed c low high))
 
 -- ---- secondCommand, by the tests in its order
 module _ (m : Machine) (c : ℕ) {nine : Bool} (isNine : nine ≡ within 0x90 0x9F c) where

@@ -17,7 +17,7 @@ use Rattle.machine.specs.SecondSet.{inputLatched, permitted}
 use Rattle.machine.specs.Commands.{overlaid}
 use Rattle.machine.specs.Frames.{positioned, pinned}
 use Rattle.machine.specs.Flags.{Flags, flagsOf}
-use Rattle.machine.specs.View.{stateLength, at, view}
+use Rattle.machine.specs.View.{stateLength, at, public, view}
 
 -- ---- stores
 -- the first twelve bytes one by one, and the rest
@@ -51,11 +51,11 @@ withSettings x p =
       settings = x;
     }
 
-pub set-permitted : (s : List ℕ) → length s ≡ stateLength → (v : ℕ) → settingsOf v (at s 64) ≡ settingsOf (at s 60) (at s 64) →
+pub set-permitted : (s : List ℕ) → length s ≡ stateLength → (v : ℕ) → settingsOf v (at s 64) (drop 65 s) ≡ public s .settings →
     view (set s 60 v) ≡ lift (permitted (has v 3)) (view s)
 set-permitted s long v =
     front 65
-    (λ s. settingsOf v (at s 64) ≡ settingsOf (at s 60) (at s 64) → view (set s 60 v) ≡ lift (permitted (has v 3)) (view s))
+    (λ s. settingsOf v (at s 64) (drop 65 s) ≡ public s .settings → view (set s 60 v) ≡ lift (permitted (has v 3)) (view s))
     s
     (omega arith)
     (λ same. ap (λ (x : Settings). lift (withSettings x) (lift (permitted (has v 3)) (view (listed 0 65 s ++ drop 65 s)))) same)
@@ -151,6 +151,7 @@ set-beside s long k v h cells =
       getD-set-other rest (16 + k) 50 v 0 (λ e. omega arith),
       getD-set-other rest (16 + k) 51 v 0 (λ e. omega arith),
       getD-set-other rest (16 + k) 52 v 0 (λ e. omega arith),
+      drop-set-lt 53 rest (16 + k) v (omega arith),
     ) refl)
 
 -- a cell of the RAM; cell 0 is the mode byte
@@ -185,6 +186,7 @@ set-appended s long v =
       getD-set-other rest n 50 v 0 (others h 50 (omega arith)),
       getD-set-other rest n 51 v 0 (others h 51 (omega arith)),
       getD-set-other rest n 52 v 0 (others h 52 (omega arith)),
+      drop-set-lt 53 rest n v (omega arith),
       code-append n (take 16 rest) (code-long s long) h v,
     ) refl)
 

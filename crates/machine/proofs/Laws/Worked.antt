@@ -3,7 +3,8 @@
 use mathlib.Core.Path.{_≡_, refl}
 use mathlib.Core.Bool.{true}
 use Rattle.translation.specs.Frames.{check, ones, frame}
-use Rattle.translation.specs.ScanCodes.{translate, raw, builtIn, rows}
+use Rattle.translation.specs.KeyTable.{builtIn, rows}
+use Rattle.translation.specs.ScanCodes.{translate, raw}
 use Rattle.machine.specs.State.{fresh}
 use Rattle.machine.specs.Lines.{nibble, inputPort, highNibble, status, putCell}
 use Rattle.machine.specs.DataPort.{plainData, loadByte, writeData}

@@ -1,6 +1,6 @@
 //! Prints from the model what the proved program `controller_tests` has to print.
 
-use model::{ANSWER_SIZE, EVENT_SIZE, Settings, run};
+use model::{ANSWER_SIZE, EVENT_SIZE, KeyTable, Settings, TABLE_SIZE, run, table_refusal};
 
 /// The cases are a file of that program, written so that it is Rust as well.
 mod cases {
@@ -93,6 +93,26 @@ pub fn second_at_case(name: &[u8], events: &[u8]) {
     );
 }
 
+/// The same with a key table in which the entries of 1Ch and 32h are exchanged
+/// and 9Dh gives 42h.
+pub fn own_table_case(name: &[u8], events: &[u8]) {
+    let mut table = KeyTable::BUILT_IN.0;
+    table.swap(0x1C, 0x32);
+    table[0x9D] = 0x42;
+    let table = KeyTable::checked(&table).expect("a table that is taken");
+    case_under(Settings::ORDINARY.with_table(table), name, events);
+}
+
+/// The check of the built-in table with one entry changed, `length` bytes of it
+/// and of the zero behind it.
+pub fn checked(name: &[u8], at: u8, value: u8, length: usize) {
+    let mut table = [0; TABLE_SIZE + 1];
+    table[..TABLE_SIZE].copy_from_slice(&KeyTable::BUILT_IN.0);
+    table[usize::from(at)] = value;
+    let refusal = table_refusal(&table[..length]);
+    println!("{}: refusal {refusal:02X}", text(name));
+}
+
 fn case_under(settings: Settings, name: &[u8], events: &[u8]) {
     let list = parse(events);
     let mut answers = vec![MARK; list.len() / EVENT_SIZE * ANSWER_SIZE];
@@ -115,4 +135,5 @@ fn main() {
     cases::noise();
     cases::at_mode();
     cases::second_set();
+    cases::key_table();
 }

@@ -3,6 +3,7 @@
 
 pub mod busy;
 pub mod saved;
+pub mod tables;
 
 use model::{Controller, Settings, frame};
 

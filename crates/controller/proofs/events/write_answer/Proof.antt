@@ -8,14 +8,17 @@ use Rattle.controller.proofs.Laws.Events.{nine-stored}
 use Rattle.controller.proofs.events.write_answer.Statement.{statement}
 use Rattle.controller.proofs.events.write_answer.Tie as tie
 
-sent-frame-requires : tie.Need-sent-frame-requires
-sent-frame-requires c κs = search needs
-
 status-requires : tie.Need-status-requires
 status-requires c κs = search needs
 
 output-port-requires : tie.Need-output-port-requires
 output-port-requires c κs = search needs
+
+element-copy-out-to : tie.Need-element-copy-out-to
+element-copy-out-to c = search needs
+
+sent-frame-requires : tie.Need-sent-frame-requires
+sent-frame-requires c κs = search needs
 
 slice-write-answers : tie.Need-slice-write-answers
 slice-write-answers c = search needs
@@ -34,9 +37,6 @@ slice-write-answers-5 c = simp length-set (search needs)
 
 slice-write-answers-6 : tie.Need-slice-write-answers-6
 slice-write-answers-6 c = simp length-set (search needs)
-
-element-copy-out-answers : tie.Need-element-copy-out-answers
-element-copy-out-answers c = search needs
 
 slice-write-answers-7 : tie.Need-slice-write-answers-7
 slice-write-answers-7 c = simp length-set (search needs)
@@ -58,25 +58,26 @@ same-length c = search needs
 
 returns : tie.Need-returns
 unfolding lines
-returns c = let shown = c .before .before .before in
-    let entry = shown .before .before in
+returns c =
+    let port = c .before .before in
+    let entry = port .before .before .before in
     nine-stored _ _ _ _ _ _ _ _ _ (entry .args .answers .now) (entry .pre)
-    ∙ simp (c .before .output-port .ensures, c .before .before .status .ensures, shown .sent-frame .ensures)
+    ∙ simp (port .output-port .ensures, port .before .status .ensures, c .sent-frame .ensures)
 
 pub write-answer-spec : {M : Type 1} → statement M
 write-answer-spec =
     tie.close
     (tie.spec
-    sent-frame-requires
     status-requires
     output-port-requires
+    element-copy-out-to
+    sent-frame-requires
     slice-write-answers
     slice-write-answers-2
     slice-write-answers-3
     slice-write-answers-4
     slice-write-answers-5
     slice-write-answers-6
-    element-copy-out-answers
     slice-write-answers-7
     cast-answers
     slice-write-answers-8

@@ -5,14 +5,14 @@ use Rattle.controller.proofs.Laws.Run.{one-answered}
 use Rattle.controller.proofs.run.event.Statement.{statement}
 use Rattle.controller.proofs.run.event.Tie as tie
 
-slice-aggregate-run-piece : tie.Need-slice-aggregate-run-piece
-slice-aggregate-run-piece c = search needs
+slice-aggregate-run-events : tie.Need-slice-aggregate-run-events
+slice-aggregate-run-events c = search needs
 
-run-piece-requires : tie.Need-run-piece-requires
-run-piece-requires c κs = search needs
+run-events-requires : tie.Need-run-events-requires
+run-events-requires c κs = search needs
 
 returns : tie.Need-returns
-returns c = one-answered (search needs) (c .run-piece .ensures)
+returns c = one-answered (search needs) (c .run-events .ensures)
 
 pub event-spec : {M : Type 1} → statement M
-event-spec = tie.close (tie.spec slice-aggregate-run-piece run-piece-requires returns)
+event-spec = tie.close (tie.spec slice-aggregate-run-events run-events-requires returns)

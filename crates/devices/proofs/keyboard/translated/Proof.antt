@@ -1,4 +1,4 @@
--- `devices::keyboard::translated` meets its contract. The test is the definition's own.
+-- `devices::keyboard::translated` meets its contract. The test is the definition's own, and the entry is of the state's table.
 -- Assumes nothing.
 use borrow.Author.Needs.{needs}
 use Rattle.machine.proofs.Laws.Frames.{translated-on, translated-off}
@@ -11,6 +11,9 @@ translates-requires c κs = search needs
 locked-requires : tie.Need-locked-requires
 locked-requires c κs = search needs
 
+entry-requires : tie.Need-entry-requires
+entry-requires c κs = search needs
+
 breaks-requires : tie.Need-breaks-requires
 breaks-requires c κs = search needs
 
@@ -21,7 +24,12 @@ raw-requires : tie.Need-raw-requires
 raw-requires c κs = search needs
 
 returns : tie.Need-returns
-returns c = search translated-on
+returns c =
+    let read = c .before in
+    let on = read .before .before in
+    let locked = on .before in
+    translated-on _ _ (locked .before .translates .ensures) (locked .locked .ensures) (on .if1 .taken)
+    (c .translate .ensures _ (read .before .entry .ensures)) (read .breaks .ensures)
 
 returns-2 : tie.Need-returns-2
 returns-2 c = search translated-off
@@ -32,6 +40,7 @@ translated-spec =
     (tie.spec
     translates-requires
     locked-requires
+    entry-requires
     breaks-requires
     translate-requires
     raw-requires

@@ -29,8 +29,11 @@ array-write-s-6 c = search needs
 array-write-s-7 : tie.Need-array-write-s-7
 array-write-s-7 c = search needs
 
+with-table-requires : tie.Need-with-table-requires
+with-table-requires c κs = search needs
+
 returns : tie.Need-returns
-returns c = fresh-started _ (c .options-of .ensures)
+returns c = fresh-started _ (c .before .before .options-of .ensures) (c .with-table .ensures)
 
 pub start-spec : {M : Type 1} → statement M
 start-spec =
@@ -44,4 +47,5 @@ start-spec =
     array-write-s-5
     array-write-s-6
     array-write-s-7
+    with-table-requires
     returns)

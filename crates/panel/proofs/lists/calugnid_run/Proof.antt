@@ -6,8 +6,12 @@ use mathlib.Core.List.{List}
 use Prim.Native.Nat.{ℕ}
 use Rattle.machine.specs.Settings.{Settings}
 use Rattle.controller.specs.Promises.{FreshRun}
+use Rattle.panel.proofs.Laws.Tables.{named-settings}
 use Rattle.panel.proofs.lists.calugnid_run.Statement.{statement}
 use Rattle.panel.proofs.lists.calugnid_run.Tie as tie
+
+built-in-requires : tie.Need-built-in-requires
+built-in-requires c κs = search needs
 
 settings-of-requires : tie.Need-settings-of-requires
 settings-of-requires c κs = search needs
@@ -24,8 +28,11 @@ same-settings {list = list} {space} {space′} {n} e ran = subst (λ (x : Settin
 returns : tie.Need-returns
 returns c =
     let ran = c .before .before in
-    same-settings (ran .before .before .settings-of .ensures) (ran .run-fresh .ensures)
+    let made = ran .before .before in
+    let args = made .before .before .before .before .args in
+    same-settings (named-settings (args .options) (args .version) (made .before .built-in .ensures) (made .settings-of .ensures)) (ran .run-fresh .ensures)
 
 pub calugnid-run-spec : {M : Type 1} → statement M
 calugnid-run-spec =
-    tie.close (tie.spec settings-of-requires run-fresh-requires same-length returns)
+    tie.close
+    (tie.spec built-in-requires settings-of-requires run-fresh-requires same-length returns)

@@ -5,8 +5,12 @@ use mathlib.Core.Path.{ap, _∙_}
 use Rattle.machine.specs.Settings.{Settings}
 use Rattle.machine.specs.State.{fresh}
 use Rattle.machine.specs.View.{stateOf}
+use Rattle.panel.proofs.Laws.Tables.{named-settings}
 use Rattle.panel.proofs.live.calugnid_start.Statement.{statement}
 use Rattle.panel.proofs.live.calugnid_start.Tie as tie
+
+built-in-requires : tie.Need-built-in-requires
+built-in-requires c κs = search needs
 
 settings-of-requires : tie.Need-settings-of-requires
 settings-of-requires c κs = search needs
@@ -15,7 +19,12 @@ start-requires : tie.Need-start-requires
 start-requires c κs = search needs
 
 returns : tie.Need-returns
-returns c = c .start .ensures .0 ∙ ap (λ (x : Settings). stateOf (fresh x)) (c .before .settings-of .ensures)
+returns c =
+    let made = c .before in
+    let args = made .before .before .args in
+    c .start .ensures .0
+    ∙ ap (λ (x : Settings). stateOf (fresh x)) (named-settings (args .options) (args .version) (made .before .built-in .ensures) (made .settings-of .ensures))
 
 pub calugnid-start-spec : {M : Type 1} → statement M
-calugnid-start-spec = tie.close (tie.spec settings-of-requires start-requires returns)
+calugnid-start-spec =
+    tie.close (tie.spec built-in-requires settings-of-requires start-requires returns)

@@ -1,4 +1,4 @@
--- `scan_codes::translate` meets its contract: it makes the definition's test, and reads the entry by `set1`.
+-- `scan_codes::translate` meets its contract: it makes the definition's test, whatever the table that the entry is from.
 -- Assumes nothing.
 use borrow.Author.Needs.{needs}
 use Rattle.translation.proofs.ScanCodes.{translate-prefix, translate-other}
@@ -6,19 +6,16 @@ use Rattle.translation.proofs.scan_codes.translate.Statement.{statement
 use Rattle.translation.proofs.scan_codes.translate.Tie as tie
 
 returns : tie.Need-returns
-returns c = rw (c .if1 .taken, translate-prefix)
-
-set1-requires : tie.Need-set1-requires
-set1-requires c κs = search needs
+returns c = λ table at. rw (c .if1 .taken, translate-prefix)
 
 add-t8 : tie.Need-add-t8
 add-t8 c = search needs
 
 returns-2 : tie.Need-returns-2
-returns-2 c = rw (translate-other _ _ _ (c .before .before .if1 .left), c .if2 .taken, ← c .before .set1 .ensures)
+returns-2 c = λ table at. rw (translate-other _ _ _ (c .before .if1 .left), c .if2 .taken, ← at)
 
 returns-3 : tie.Need-returns-3
-returns-3 c = rw (translate-other _ _ _ (c .before .before .if1 .left), c .if2 .left, ← c .before .set1 .ensures)
+returns-3 c = λ table at. rw (translate-other _ _ _ (c .before .if1 .left), c .if2 .left, ← at)
 
 pub translate-spec : {M : Type 1} → statement M
-translate-spec = tie.close (tie.spec returns set1-requires add-t8 returns-2 returns-3)
+translate-spec = tie.close (tie.spec returns add-t8 returns-2 returns-3)
