@@ -6,6 +6,10 @@ use crate::mode::disable_mouse;
 use crate::mode::enable_keyboard;
 use crate::mode::enable_mouse;
 use crate::mode::set_mode;
+use decoding::commands::cell_named;
+use decoding::commands::pending_of;
+use decoding::commands::pulse_of;
+use decoding::commands::understood;
 use machine::events::Told;
 use machine::events::quiet;
 use machine::flags::with_command;
@@ -20,7 +24,6 @@ use machine::lines::output_port;
 use machine::lines::put;
 use machine::lines::put_cell;
 use machine::lines::second_set;
-use machine::lines::within;
 use machine::state::CELL;
 use machine::state::FLAGS;
 use machine::state::LENGTH;
@@ -32,306 +35,14 @@ use machine::state::State;
 use machine::state::sized;
 use machine::weights::nibble;
 use vt82c42::second_set::second_command;
-use vt82c42::second_set::second_only;
 ghost use mathlib.Core.Path.{_≡_};
-ghost use mathlib.Core.Bool.{_&&_};
 ghost use Prim.Native.Nat.{_%_};
 ghost use Rattle.machine.specs.State.{lift};
-ghost use Rattle.machine.specs.Lines.{atMode};
 ghost use Rattle.machine.specs.Commands as command;
 ghost use Rattle.machine.specs.Events.{event};
 ghost use Rattle.machine.specs.View.{public, view};
 ghost use Rattle.machine.specs.Changed.{Changed};
 ghost use Rattle.machine.specs.Told.{EventTold};
-
-// The pending code that each command byte leaves.
-const PENDING_CODES: [u8; 256] = [
-    // 00h
-    0,
-    0,
-    0,
-    0,
-    0,
-    0,
-    0,
-    0,
-    0,
-    0,
-    0,
-    0,
-    0,
-    0,
-    0,
-    0,
-    // 10h
-    0,
-    0,
-    0,
-    0,
-    0,
-    0,
-    0,
-    0,
-    0,
-    0,
-    0,
-    0,
-    0,
-    0,
-    0,
-    0,
-    // 20h
-    0,
-    0,
-    0,
-    0,
-    0,
-    0,
-    0,
-    0,
-    0,
-    0,
-    0,
-    0,
-    0,
-    0,
-    0,
-    0,
-    // 30h
-    0,
-    0,
-    0,
-    0,
-    0,
-    0,
-    0,
-    0,
-    0,
-    0,
-    0,
-    0,
-    0,
-    0,
-    0,
-    0,
-    // 40h
-    0,
-    0,
-    0,
-    0,
-    0,
-    0,
-    0,
-    0,
-    0,
-    0,
-    0,
-    0,
-    0,
-    0,
-    0,
-    0,
-    // 50h
-    0,
-    0,
-    0,
-    0,
-    0,
-    0,
-    0,
-    0,
-    0,
-    0,
-    0,
-    0,
-    0,
-    0,
-    0,
-    0,
-    // 60h
-    1,
-    2,
-    2,
-    2,
-    2,
-    2,
-    2,
-    2,
-    2,
-    2,
-    2,
-    2,
-    2,
-    2,
-    2,
-    2,
-    // 70h
-    2,
-    2,
-    2,
-    2,
-    2,
-    2,
-    2,
-    2,
-    2,
-    2,
-    2,
-    2,
-    2,
-    2,
-    2,
-    2,
-    // 80h
-    0,
-    0,
-    0,
-    0,
-    0,
-    0,
-    0,
-    0,
-    0,
-    0,
-    0,
-    0,
-    0,
-    0,
-    0,
-    0,
-    // 90h
-    0,
-    0,
-    0,
-    0,
-    0,
-    0,
-    0,
-    0,
-    0,
-    0,
-    0,
-    0,
-    0,
-    0,
-    0,
-    0,
-    // A0h
-    0,
-    0,
-    0,
-    0,
-    0,
-    3,
-    0,
-    0,
-    0,
-    0,
-    0,
-    0,
-    0,
-    0,
-    0,
-    0,
-    // B0h
-    0,
-    0,
-    0,
-    0,
-    0,
-    0,
-    0,
-    0,
-    0,
-    0,
-    0,
-    0,
-    0,
-    0,
-    0,
-    0,
-    // C0h
-    0,
-    0,
-    0,
-    0,
-    0,
-    0,
-    0,
-    0,
-    0,
-    0,
-    0,
-    0,
-    0,
-    0,
-    0,
-    0,
-    // D0h
-    0,
-    4,
-    5,
-    6,
-    7,
-    0,
-    0,
-    0,
-    0,
-    0,
-    0,
-    0,
-    0,
-    0,
-    0,
-    0,
-    // E0h
-    0,
-    0,
-    0,
-    0,
-    0,
-    0,
-    0,
-    0,
-    0,
-    0,
-    0,
-    0,
-    0,
-    0,
-    0,
-    0,
-    // F0h
-    0,
-    0,
-    0,
-    0,
-    0,
-    0,
-    0,
-    0,
-    0,
-    0,
-    0,
-    0,
-    0,
-    0,
-    0,
-    0,
-];
-
-fn pending_of(c: u8) -> u8
-    ensures { λ r. ⌜ r ≡ command.pendingOf c ⌝ }
-{
-    PENDING_CODES[c as usize]
-}
-
-// The cell that 61h-7Fh name, else 0.
-fn cell_named(c: u8) -> u8
-    ensures { λ r. ⌜ r ≡ command.cellNamed c ⌝ }
-{
-    if (0x61 <= c) & (c <= 0x7F) { c % 32 } else { 0 }
-}
 
 // The command flag is set, the overlay ends, and the pending code is the command's own.
 fn command_written(s: &mut State, c: u8)
@@ -510,41 +221,6 @@ fn act(s: &mut State, c: u8)
     }
 }
 
-// A command of PS/2 mode alone.
-fn ps2_only(c: u8) -> bool
-    ensures { λ r. ⌜ r ≡ command.ps2Only c ⌝ }
-{
-    within(0xA4, 0xA9, c) | (within(0xC1, 0xC2, c) | within(0xD2, 0xD4, c))
-}
-
-// A command that the mode of the start has not.
-fn not_in_mode(s: &State, c: u8) -> bool
-    ensures { λ r. ⌜ r ≡ (atMode (public (now (s .entry))) && command.ps2Only c) ⌝ }
-{
-    if at_mode(s) { ps2_only(c) } else { false }
-}
-
-// A command that the set of the start has not. Those that load a lock code and lock are the first set's.
-fn not_in_set(s: &State, c: u8) -> bool
-    ensures { λ r. ⌜ r ≡ command.notInSet (public (now (s .entry)) .settings) c ⌝ }
-{
-    if second_set(s) {
-        within(0xA5, 0xA6, c)
-    } else {
-        second_only(c)
-    }
-}
-
-// The command as it acts under the settings of the start: 00h, which does nothing, for one that mode or set leaves out.
-fn understood(s: &State, c: u8) -> u8
-    ensures { λ r. ⌜ r ≡ command.understood (public (now (s .entry)) .settings) c ⌝ }
-{
-    if not_in_mode(s, c) {
-        return 0;
-    }
-    if not_in_set(s, c) { 0 } else { c }
-}
-
 // What the command does.
 fn write_command(s: &mut State, c: u8)
     ensures { λ _. ⌜ Changed (command.writeCommand c) (now (s .entry)) (now (s .exit)) ⌝ }
@@ -553,23 +229,6 @@ fn write_command(s: &mut State, c: u8)
     cut_load(s);
     command_written(s, known);
     act(s, known);
-}
-
-// The lines of the output port that a command pulses, as a mask.
-fn pulse_of(s: &State, c: u8) -> u8
-    ensures { λ r. ⌜ r ≡ command.pulseOf (public (now (s .entry)) .settings) c ⌝ }
-{
-    if 0xF0 <= c {
-        let all = at_mode(s);
-        nibble(
-            c / 1 % 2 != 1,
-            c / 2 % 2 != 1,
-            all & (c / 4 % 2 != 1),
-            all & (c / 8 % 2 != 1),
-        )
-    } else {
-        0
-    }
 }
 
 pub fn command_event(s: &mut State, low: u8, high: u8) -> Told

@@ -20,20 +20,6 @@ ghost use Rattle.machine.specs.SecondSet as second;
 ghost use Rattle.machine.specs.Changed.{Changed};
 ghost use Rattle.vt82c42.specs.Promises.{SecondChange};
 
-// A command that the first set has not.
-pub fn second_only(c: u8) -> bool
-    ensures { λ r. ⌜ r ≡ second.secondOnly c ⌝ }
-{
-    match c {
-        0x90..=0x9F => true,
-        0xA1 => true,
-        0xAF..=0xBF => true,
-        0xC8..=0xCA => true,
-        0xE1..=0xEF => true,
-        _ => false,
-    }
-}
-
 // The latches of P10-P15.
 fn latch_inputs(s: &mut State, n: u8)
     ensures { λ _. ⌜ Changed (lift (second.inputLatched n)) (now (s .entry)) (now (s .exit)) ⌝ }

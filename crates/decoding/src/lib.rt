@@ -1,0 +1,2 @@
+// Command bytes: which act, and what each leaves.
+pub mod commands;
