@@ -11,7 +11,7 @@ ghost use Prim.Native.Nat.{_≤_};
 ghost use lib.ListN.{length, take};
 ghost use Rattle.machine.specs.Lock as lock;
 ghost use Rattle.machine.specs.Frames as frame;
-ghost use Rattle.machine.specs.View.{public, codeOf, at};
+ghost use Rattle.machine.specs.View.{public, view, codeOf};
 
 // A byte that is no key of a code.
 pub fn ignored(s: &State, x: u8) -> bool
@@ -59,7 +59,7 @@ fn fall_back(s: &State, x: u8, k: usize) -> usize
 
 // The longest beginning of the code, the whole of it too, that the keys counted and then x end with.
 pub fn reach(s: &State, x: u8) -> usize
-    ensures { λ r. ⌜ (let code = codeOf (now (s .entry)) in r ≡ lock.longest code (length code) (x ∷ lock.begun code (at (now (s .entry)) 11))) × (r ≤ 16) ⌝ }
+    ensures { λ r. ⌜ (let secret = view (now (s .entry)) .secret in r ≡ lock.longest (secret .code) (length (secret .code)) (x ∷ lock.begun (secret .code) (secret .position))) × (r ≤ 16) ⌝ }
 {
     sized(*s);
     let n = code_length(s);
