@@ -20,7 +20,7 @@ inclusive() {
 }
 
 printf '%-10s %8s %13s %11s %7s\n' case count 'library each' 'model each' ratio
-for name in mix-1 mix-70 mix-700 mix-7000 tries slips dearest refused events judge judge-all frame; do
+for name in mix-1 mix-70 mix-700 mix-7000 tries mismatches dearest refused events judge judge-all frame; do
     case $name in
     events|dearest) library=measured_library_event model=measured_model_event ;;
     judge*) library=calugnid_judge model=measured_model_judge ;;

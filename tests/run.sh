@@ -3,7 +3,7 @@
 # the program `panelrun` on lists, and the stored outputs compared with those of the model. Arguments go to `cargo test`.
 set -euo pipefail
 cd "$(dirname "$0")/.."
-library=target/staticlib/libpanel.a
+library=target/staticlib/libcalugnid.a
 programs=target/programs
 
 # by_model NAME: what a program of tests/generate prints from the model
@@ -25,13 +25,15 @@ prints() {
     cmp "$programs/printed" "$1"
 }
 
-rt staticlib panel
-rt check panelrun
+rt check calugnid panelrun # what both need, two crates at a time; the next line then only builds the archive
+rt staticlib calugnid
 (cd tests && cargo test --quiet --release "$@")
 
-by_model frames_table | cmp - crates/translation_tests/stdout
-by_model controller_cases | cmp - crates/controller_tests/stdout
-by_model image_cases | cmp - crates/image_tests/stdout
+{
+    by_model frames_table
+    by_model list_cases < crates/vectors/stdin
+    by_model image_cases
+} | cmp - crates/vectors/stdout
 
 mkdir -p "$programs"
 for source in tests/c/*.c examples/*.c; do

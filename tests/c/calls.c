@@ -367,7 +367,7 @@ static void try_noise_while_locked(uint8_t options)
 
 /* One key too many before the right code, with a save and a load between. A
  * load gives the position, so it keeps as much of the code as was typed. */
-static void try_slips(uint8_t options)
+static void try_mismatches(uint8_t options)
 {
     static const uint8_t code[] = {0x1E, 0x1E, 0x30, 0x00};
     uint8_t state[CALUGNID_STATE_BYTES], other[CALUGNID_STATE_BYTES];
@@ -583,7 +583,7 @@ int main(void)
         if (options & CALUGNID_SECOND_SET)
             continue; /* no lock code */
         try_noise_while_locked((uint8_t)options);
-        try_slips((uint8_t)options);
+        try_mismatches((uint8_t)options);
     }
     try_noise_with_turned_switch();
     try_numbers();

@@ -8,7 +8,7 @@ use Rattle.machine.specs.State.{fresh}
 use Rattle.machine.specs.Events.{Event, step, answer, lines, refusal}
 use Rattle.machine.specs.Run.{events, after, filled, fitting, listRefusal}
 use Rattle.machine.specs.Kept.{Kept}
-use Rattle.machine.specs.View.{view, public, stateOf, IsState}
+use Rattle.state.specs.View.{view, public, stateOf, IsState}
 
 -- One event: the machine's step and its nine bytes. A refused event changes no byte of the state.
 pub record EventAnswered (s : List ℕ) (e : Event) (s′ reply : List ℕ) : Type 0 where

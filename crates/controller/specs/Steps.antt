@@ -6,8 +6,8 @@ use lib.ListN.{length, drop}
 use Rattle.machine.specs.Events.{Event, step, answer, refusal}
 use Rattle.machine.specs.Run.{first}
 use Rattle.machine.specs.Kept.{Kept}
-use Rattle.machine.specs.View.{view, public}
-use Rattle.machine.specs.Changed.{Changed}
+use Rattle.state.specs.View.{view, public}
+use Rattle.state.specs.Changed.{Changed}
 use Rattle.controller.specs.Promises.{FittingRun}
 
 -- An event whose answer stands at the front of a longer buffer.

@@ -1,21 +1,21 @@
 // One event: its kind is looked at once, each kind makes its own checks, and the nine answer bytes are written.
-use devices::keyboard::keyboard_event;
+use command_port::commands::command_event;
+use command_port::status::read_status;
+use data_port::reads::read_data;
+use data_port::writes::data_event;
 use devices::mouse::mouse_event;
 use devices::pins::pins_event;
 use devices::sending::taken_event;
 use devices::sending::timeout_event;
-use machine::events::Told;
-use machine::events::quiet;
-use machine::lines::input_full;
-use machine::lines::output_port;
-use machine::lines::status;
-use machine::state::SENT;
-use machine::state::SENT_TO;
-use machine::state::State;
-use ports::commands::command_event;
-use ports::data_port::data_event;
-use ports::reads::read_data;
-use ports::reads::read_status;
+use keyboard::keyboard::keyboard_event;
+use state::lines::input_full;
+use state::lines::output_port;
+use state::lines::status;
+use state::state::SENT;
+use state::state::SENT_TO;
+use state::state::State;
+use state::told::Told;
+use state::told::quiet;
 use translation::frames::frame_of;
 ghost use mathlib.Core.Path.{_≡_};
 ghost use mathlib.Core.List.{_∷_, _++_};
@@ -23,8 +23,8 @@ ghost use Prim.Native.Nat.{_≤_};
 ghost use lib.ListN.{length, drop};
 ghost use Rattle.machine.specs.Events as events;
 ghost use Rattle.machine.specs.Events.{event};
-ghost use Rattle.machine.specs.View.{public};
-ghost use Rattle.machine.specs.Told.{EventTold};
+ghost use Rattle.state.specs.View.{public};
+ghost use Rattle.state.specs.Told.{EventTold};
 ghost use Rattle.controller.specs.Steps.{EventWritten};
 
 // The event, and what it itself tells.
@@ -45,7 +45,7 @@ fn act(s: &mut State, kind: u8, low: u8, high: u8) -> Told
     }
 }
 
-// The frame being sent, 0 with nobody.
+// The frame being sent, or 0 if nothing is being sent.
 fn sent_frame(s: &State) -> u16
     ensures { λ r. ⌜ r ≡ events.sentFrame (public (now (s .entry))) ⌝ }
 {

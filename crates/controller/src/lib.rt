@@ -1,4 +1,3 @@
-// The controller: one event, a list of events, and which check would refuse one.
-pub mod checks;
+// The controller: one event, and a list of events.
 pub mod events;
 pub mod run;

@@ -1,15 +1,15 @@
 // A list of events: each writes its nine answer bytes, and the rest of the answer buffer goes to the next.
 use crate::events::respond;
-use machine::settings::Settings;
-use machine::state::State;
-use machine::state::start;
+use state::settings::Settings;
+use state::state::State;
+use state::state::start;
 ghost use mathlib.Core.Path.{_≡_};
 ghost use Prim.Native.Nat.{_≤_};
 ghost use lib.ListN.{length};
 ghost use Rattle.machine.specs.Events as events;
 ghost use Rattle.machine.specs.Events.{event};
 ghost use Rattle.machine.specs.Run.{first, lengthRefusal};
-ghost use Rattle.machine.specs.View.{public, named};
+ghost use Rattle.state.specs.View.{public, named};
 ghost use Rattle.controller.specs.Promises.{EventAnswered, FittingRun, ListRun, FreshRun};
 ghost use Rattle.controller.specs.Steps.{EventWritten, EventsRun};
 
@@ -29,11 +29,11 @@ fn run_events(s: &mut State, list: &[u8], answers: &mut [u8])
     ensures { λ _. ⌜ EventsRun (now (s .entry)) (now (list .entry)) (now (answers .entry)) (now (s .exit)) (now (answers .exit)) ⌝ }
 {
     let mut done = 0;
-    let mut told = 0;
-    while (3 <= list.len() - done) & (9 <= answers.len() - told) {
-        run_first(s, &list[done..], &mut answers[told..]);
+    let mut written = 0;
+    while (3 <= list.len() - done) & (9 <= answers.len() - written) {
+        run_first(s, &list[done..], &mut answers[written..]);
         done += 3;
-        told += 9;
+        written += 9;
     }
 }
 
@@ -86,7 +86,7 @@ pub fn run(s: &mut State, list: &[u8], answers: &mut [u8]) -> u8
     0
 }
 
-// A list run by a controller that these settings start, whose state is not wanted afterwards.
+// Runs a list from a start with these settings; the state is not kept.
 pub fn run_fresh(settings: Settings, list: &[u8], answers: &mut [u8]) -> u8
     ensures { λ r. ⌜ FreshRun (named settings) (now (list .entry)) (now (answers .entry)) (now (answers .exit)) r ⌝ }
 {

@@ -1,16 +1,17 @@
 // What a command byte written to port 64h is: whether it acts under the settings of the start, the pending code and the cell that it leaves, the
 // lines that it pulses.
-use machine::lines::at_mode;
-use machine::lines::second_set;
-use machine::lines::within;
-use machine::state::State;
-use machine::weights::nibble;
+use state::bits::nibble;
+use state::bits::within;
+use state::lines::at_mode;
+use state::lines::second_set;
+use state::state::State;
 ghost use mathlib.Core.Path.{_≡_};
 ghost use mathlib.Core.Bool.{_&&_};
 ghost use Rattle.machine.specs.Lines.{atMode};
 ghost use Rattle.machine.specs.Commands as command;
 ghost use Rattle.machine.specs.SecondSet as second;
-ghost use Rattle.machine.specs.View.{public};
+ghost use Rattle.state.specs.View.{public};
+ghost use Rattle.decoding.specs.Promises.{CommandDecoded};
 
 // A command of PS/2 mode alone.
 fn ps2_only(c: u8) -> bool
@@ -19,14 +20,14 @@ fn ps2_only(c: u8) -> bool
     within(0xA4, 0xA9, c) | (within(0xC1, 0xC2, c) | within(0xD2, 0xD4, c))
 }
 
-// A command that the mode of the start has not.
+// A command that the mode of the start does not have.
 fn not_in_mode(s: &State, c: u8) -> bool
     ensures { λ r. ⌜ r ≡ (atMode (public (now (s .entry))) && command.ps2Only c) ⌝ }
 {
     if at_mode(s) { ps2_only(c) } else { false }
 }
 
-// A command that the first set has not.
+// A command that only the second set has.
 fn second_only(c: u8) -> bool
     ensures { λ r. ⌜ r ≡ second.secondOnly c ⌝ }
 {
@@ -40,7 +41,7 @@ fn second_only(c: u8) -> bool
     }
 }
 
-// A command that the set of the start has not. Those that load a lock code and lock are the first set's.
+// A command that the set of the start does not have. Those that load a lock code and lock are the first set's.
 fn not_in_set(s: &State, c: u8) -> bool
     ensures { λ r. ⌜ r ≡ command.notInSet (public (now (s .entry)) .settings) c ⌝ }
 {
@@ -52,7 +53,7 @@ fn not_in_set(s: &State, c: u8) -> bool
 }
 
 // The command as it acts under the settings of the start: 00h, which does nothing, for one that mode or set leaves out.
-pub fn understood(s: &State, c: u8) -> u8
+fn understood(s: &State, c: u8) -> u8
     ensures { λ r. ⌜ r ≡ command.understood (public (now (s .entry)) .settings) c ⌝ }
 {
     if not_in_mode(s, c) {
@@ -337,32 +338,55 @@ const PENDING_CODES: [u8; 256] = [
     0,
 ];
 
-pub fn pending_of(c: u8) -> u8
+// The pending code that a command leaves.
+fn pending_of(c: u8) -> u8
     ensures { λ r. ⌜ r ≡ command.pendingOf c ⌝ }
 {
     PENDING_CODES[c as usize]
 }
 
 // The cell that 61h-7Fh name, else 0.
-pub fn cell_named(c: u8) -> u8
+fn cell_named(c: u8) -> u8
     ensures { λ r. ⌜ r ≡ command.cellNamed c ⌝ }
 {
     if (0x61 <= c) & (c <= 0x7F) { c % 32 } else { 0 }
 }
 
 // The lines of the output port that a command pulses, as a mask.
-pub fn pulse_of(s: &State, c: u8) -> u8
+fn pulse_of(s: &State, c: u8) -> u8
     ensures { λ r. ⌜ r ≡ command.pulseOf (public (now (s .entry)) .settings) c ⌝ }
 {
     if 0xF0 <= c {
-        let all = at_mode(s);
+        let four_lines = at_mode(s);
         nibble(
             c / 1 % 2 != 1,
             c / 2 % 2 != 1,
-            all & (c / 4 % 2 != 1),
-            all & (c / 8 % 2 != 1),
+            four_lines & (c / 4 % 2 != 1),
+            four_lines & (c / 8 % 2 != 1),
         )
     } else {
         0
+    }
+}
+
+// A command byte decoded under the settings of the start: the command as it acts, the pending code and the cell that it leaves, and the lines that it
+// pulses.
+pub struct Decoded {
+    pub command: u8,
+    pub pending: u8,
+    pub cell: u8,
+    pub pulse: u8,
+}
+
+pub fn decode(s: &State, c: u8) -> Decoded
+    ensures { λ r. ⌜ CommandDecoded (public (now (s .entry)) .settings) c r ⌝ }
+{
+    let pulse = pulse_of(s, c);
+    let known = understood(s, c);
+    Decoded {
+        command: known,
+        pending: pending_of(known),
+        cell: cell_named(known),
+        pulse,
     }
 }

@@ -1,8 +1,4 @@
-// The devices' side: the kinds 4 to 8, each a whole event with its checks.
-pub mod checks;
-mod errors;
-pub mod keyboard;
-mod lock;
+// The mouse, the byte being sent and the pins: the kinds 5 to 8, each a whole event with its checks.
 pub mod mouse;
 pub mod pins;
 pub mod sending;

@@ -1,18 +1,18 @@
 // Kind 8, the input port's pins.
-use crate::checks::pins_refusal;
-use machine::events::Told;
-use machine::events::quiet;
-use machine::state::PINS;
-use machine::state::State;
-use machine::state::sized;
+use checks::devices::pins_refusal;
+use state::state::PINS;
+use state::state::State;
+use state::state::sized;
+use state::told::Told;
+use state::told::quiet;
 ghost use Rattle.machine.specs.State.{lift};
-ghost use Rattle.machine.specs.Frames as frame;
+ghost use Rattle.machine.specs.Devices as device;
 ghost use Rattle.machine.specs.Events.{event};
-ghost use Rattle.machine.specs.Changed.{Changed};
-ghost use Rattle.machine.specs.Told.{EventTold};
+ghost use Rattle.state.specs.Changed.{Changed};
+ghost use Rattle.state.specs.Told.{EventTold};
 
 fn set_pins(s: &mut State, pins: u8)
-    ensures { λ _. ⌜ Changed (lift (frame.pinned pins)) (now (s .entry)) (now (s .exit)) ⌝ }
+    ensures { λ _. ⌜ Changed (lift (device.pinned pins)) (now (s .entry)) (now (s .exit)) ⌝ }
 {
     sized(*s);
     s[PINS] = pins;

@@ -1,35 +1,50 @@
 // Kinds 6 and 7, the end of a byte being sent: its device took it, or did not in time.
-use crate::checks::end_refusal;
-use crate::errors::note_not_taken;
-use crate::errors::set_errors;
-use machine::events::Told;
-use machine::events::quiet;
-use machine::lines::put;
-use machine::lines::put_mouse;
-use machine::state::SENT;
-use machine::state::SENT_TO;
-use machine::state::State;
-use machine::state::sized;
+use checks::devices::end_refusal;
+use state::bits::weight;
+use state::errors::set_errors;
+use state::flags::with_errors;
+use state::lines::at_mode;
+use state::lines::put;
+use state::lines::put_mouse;
+use state::state::FLAGS;
+use state::state::SENT;
+use state::state::SENT_TO;
+use state::state::State;
+use state::state::TTIM;
+use state::state::sized;
+use state::told::Told;
+use state::told::quiet;
 ghost use Rattle.machine.specs.State.{lift};
-ghost use Rattle.machine.specs.Frames as frame;
+ghost use Rattle.machine.specs.Devices as device;
 ghost use Rattle.machine.specs.Events.{event};
-ghost use Rattle.machine.specs.Changed.{Changed};
-ghost use Rattle.machine.specs.Told.{EventTold};
+ghost use Rattle.state.specs.Changed.{Changed};
+ghost use Rattle.state.specs.Told.{EventTold};
 
 // What the host reads after a byte that was not taken.
 const NOT_TAKEN: u8 = 0xFE;
 
 // Nothing is being sent any more.
 fn stop_sending(s: &mut State)
-    ensures { λ _. ⌜ Changed (lift frame.idle) (now (s .entry)) (now (s .exit)) ⌝ }
+    ensures { λ _. ⌜ Changed (lift device.idle) (now (s .entry)) (now (s .exit)) ⌝ }
 {
     sized(*s);
     s[SENT_TO] = 0;
     s[SENT] = 0;
 }
 
+// A byte was not taken: TERR, or in AT mode the transmit time-out.
+fn note_not_taken(s: &mut State)
+    ensures { λ _. ⌜ Changed (lift device.notTaken) (now (s .entry)) (now (s .exit)) ⌝ }
+{
+    sized(*s);
+    let in_at_mode = at_mode(s);
+    let flags = s[FLAGS];
+    s[FLAGS] = with_errors(flags, !in_at_mode, false);
+    s[TTIM] = weight(1, in_at_mode);
+}
+
 fn taken(s: &mut State)
-    ensures { λ _. ⌜ Changed (lift frame.taken) (now (s .entry)) (now (s .exit)) ⌝ }
+    ensures { λ _. ⌜ Changed (lift device.taken) (now (s .entry)) (now (s .exit)) ⌝ }
 {
     stop_sending(s);
     set_errors(s, false, false);
@@ -37,7 +52,7 @@ fn taken(s: &mut State)
 
 // The byte put has the source of the device that was sent to.
 fn timed_out(s: &mut State)
-    ensures { λ _. ⌜ Changed (lift frame.timedOut) (now (s .entry)) (now (s .exit)) ⌝ }
+    ensures { λ _. ⌜ Changed (lift device.timedOut) (now (s .entry)) (now (s .exit)) ⌝ }
 {
     let to = s[SENT_TO];
     stop_sending(s);

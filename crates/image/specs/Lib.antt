@@ -1,8 +1,5 @@
-pub mod Sum
-pub mod Layout
+pub mod Image
 pub mod Save
-pub mod Find
-pub mod Rules
 pub mod Load
 pub mod Restored
 pub mod Promises

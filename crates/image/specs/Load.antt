@@ -5,10 +5,10 @@ use mathlib.Core.List.{List, _++_}
 use lib.Dec.{eqb}
 use Rattle.machine.specs.Settings.{ordinary}
 use Rattle.machine.specs.State.{Machine, fresh}
-use Rattle.machine.specs.View.{beyond, view}
-use Rattle.image.specs.Layout.{bodyLength}
-use Rattle.image.specs.Find.{ends, found}
-use Rattle.image.specs.Rules.{bodyKept}
+use Rattle.state.specs.View.{beyond, view}
+use Rattle.image_bytes.specs.Layout.{bodyLength}
+use Rattle.image_bytes.specs.Find.{ends, found}
+use Rattle.image_bytes.specs.Rules.{bodyKept}
 
 -- Check 10: under 68 bytes, or mark, edition, distance or sum is wrong. Check 11: the body breaks a body rule.
 unfoldable pub loadRefusal : List ℕ → ℕ

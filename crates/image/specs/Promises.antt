@@ -5,10 +5,10 @@ use mathlib.Core.List.{List, _++_}
 use lib.ListN.{take}
 use Rattle.machine.specs.Settings.{ordinary}
 use Rattle.machine.specs.Kept.{Kept}
-use Rattle.machine.specs.View.{view, public, IsState}
-use Rattle.image.specs.Layout.{imageLength}
+use Rattle.state.specs.View.{view, public, IsState}
+use Rattle.image_bytes.specs.Layout.{imageLength}
+use Rattle.image_bytes.specs.Find.{found}
 use Rattle.image.specs.Save.{saveRefusal, savedBytes, saved}
-use Rattle.image.specs.Find.{found}
 use Rattle.image.specs.Load.{loadRefusal, stateFrom, loaded}
 use Rattle.image.specs.Restored.{Restored}
 

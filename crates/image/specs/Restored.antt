@@ -1,13 +1,14 @@
--- A saved machine is restored exactly. The bytes hold the machine's image at their end: that of every machine that keeps the body rules and has
--- the ordinary settings does, whatever stands before it, and so do all bytes that a load accepts (proofs/Laws/RoundTrip).
+-- A saved machine is restored exactly. The bytes end with the machine's image. That is so of every machine that keeps the body rules and has the
+-- ordinary settings, whatever comes before its image, and of all bytes that a load accepts (proofs/Laws/RoundTrip).
 use mathlib.Core.Path.{_≡_}
 use mathlib.Core.List.{List}
 use Prim.Native.Nat.{ℕ}
 use Rattle.machine.specs.State.{Machine}
 use Rattle.machine.specs.Kept.{Kept}
-use Rattle.machine.specs.View.{body}
-use Rattle.image.specs.Layout.{imageLength, image}
-use Rattle.image.specs.Find.{lastBytes, found}
+use Rattle.state.specs.View.{body}
+use Rattle.image_bytes.specs.Layout.{imageLength}
+use Rattle.image_bytes.specs.Find.{lastBytes, found}
+use Rattle.image.specs.Image.{image}
 use Rattle.image.specs.Load.{loadRefusal, loaded}
 
 pub record Restored (m : Machine) (bytes : List ℕ) : Type 0 where

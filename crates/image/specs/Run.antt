@@ -10,7 +10,7 @@ use Rattle.machine.specs.State.{Machine}
 use Rattle.machine.specs.Events.{Event}
 use Rattle.machine.specs.Run.{events, after, answers, filled, listRefusal}
 use Rattle.machine.specs.Kept.{Kept}
-use Rattle.image.specs.Layout.{image}
+use Rattle.image.specs.Image.{image}
 use Rattle.image.specs.Load.{loadRefusal, resumed}
 use Rattle.image.specs.Save.{saveRefusal, saved}
 

@@ -1,16 +1,16 @@
 // An image loaded, a list of events run, and the state saved again.
-use crate::layout::IMAGE;
 use crate::load::load;
-use crate::save::NO_ROOM;
+use crate::save::SHORT_SPACE;
 use crate::save::save;
 use controller::run::list_refusal;
 use controller::run::run;
-use machine::settings::ordinary;
-use machine::state::start;
+use image_bytes::layout::IMAGE;
+use state::settings::ordinary;
+use state::state::start;
 ghost use Rattle.image.specs.Run.{ImageRun};
 
-// The answers stand in `answers` and the image at the front of `saved`, and 0 comes back; or the refusal, and both are as they were. Every check
-// comes before the first byte is written.
+// Writes the answers and, to the front of `saved`, the image, and returns 0; or returns the refusal and leaves both as they were. Every check comes
+// before the first byte is written.
 pub fn run_image(image: &[u8], list: &[u8], answers: &mut [u8], saved: &mut [u8]) -> u8
     ensures { λ r. ⌜ ImageRun (now (image .entry)) (now (list .entry)) (now (answers .entry)) (now (saved .entry)) r (now (answers .exit)) (now (saved .exit)) ⌝ }
 {
@@ -19,7 +19,7 @@ pub fn run_image(image: &[u8], list: &[u8], answers: &mut [u8], saved: &mut [u8]
         return number;
     }
     if saved.len() < IMAGE {
-        return NO_ROOM;
+        return SHORT_SPACE;
     }
     let mut s = start(ordinary());
     let refusal = load(&mut s, image);

@@ -1,26 +1,25 @@
 // A state saved as an image.
-use crate::copy::copy_in;
-use crate::layout::BODY;
-use crate::layout::EDITION;
-use crate::layout::IMAGE;
-use crate::layout::trailer;
-use machine::state::State;
+use image_bytes::layout::BODY;
+use image_bytes::layout::EDITION;
+use image_bytes::layout::IMAGE;
+use image_bytes::layout::trailer;
+use state::state::State;
 ghost use Rattle.image.specs.Promises.{Saved};
 
-// Check 9: too little space.
-pub(crate) const NO_ROOM: u8 = 9;
+// Check 9: the space is short.
+pub(crate) const SHORT_SPACE: u8 = 9;
 
-// The image of `s` stands at the front of `out`, and 0 comes back; or the refusal, and `out` is as it was.
+// Writes the image of `s` to the front of `out` and returns 0; or returns the refusal and leaves `out` as it was.
 pub fn save(s: &State, out: &mut [u8]) -> u8
     ensures { λ r. ⌜ Saved (now (s .entry)) (now (out .entry)) r (now (out .exit)) ⌝ }
 {
     if out.len() < IMAGE {
-        return NO_ROOM;
+        return SHORT_SPACE;
     }
-    let bytes = &s[..];
-    let body = &bytes[..BODY];
+    let state = &s[..];
+    let body = &state[..BODY];
     let tail = trailer(EDITION, body);
-    copy_in(out, 0, body);
-    copy_in(out, BODY, &tail);
+    bytes::copy(body, out);
+    bytes::copy(&tail, &mut out[BODY..]);
     0
 }

@@ -1,21 +1,21 @@
 // Keys typed while locked, against the lock code: which count, and the longest beginning of the code that they end with.
-use machine::lines::cell;
-use machine::state::CODE;
-use machine::state::POSITION;
-use machine::state::State;
-use machine::state::code_length;
-use machine::state::sized;
+use state::code::code_length;
+use state::lines::cell;
+use state::state::CODE;
+use state::state::POSITION;
+use state::state::State;
+use state::state::sized;
 ghost use mathlib.Core.Path.{_≡_};
 ghost use mathlib.Core.List.{_∷_};
 ghost use Prim.Native.Nat.{_≤_};
 ghost use lib.ListN.{length, take};
 ghost use Rattle.machine.specs.Lock as lock;
-ghost use Rattle.machine.specs.Frames as frame;
-ghost use Rattle.machine.specs.View.{public, view, codeOf};
+ghost use Rattle.machine.specs.Devices as device;
+ghost use Rattle.state.specs.View.{public, view, codeOf};
 
 // A byte that is no key of a code.
 pub fn ignored(s: &State, x: u8) -> bool
-    ensures { λ r. ⌜ r ≡ frame.ignored x (public (now (s .entry))) ⌝ }
+    ensures { λ r. ⌜ r ≡ device.ignored x (public (now (s .entry))) ⌝ }
 {
     (x / 128 % 2 == 1) | ((x == cell(s, 0x16)) | (x == cell(s, 0x17)))
 }

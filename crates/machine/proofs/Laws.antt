@@ -1,6 +1,5 @@
 -- Laws of the definitions, in files of the same names.
 pub mod Cond
-pub mod Lists
 pub mod Lines
 pub mod Bounds
 pub mod Bits
@@ -8,7 +7,7 @@ pub mod DataPort
 pub mod SecondSet
 pub mod Commands
 pub mod Lock
-pub mod Frames
+pub mod Devices
 pub mod Events
 pub mod Noise
 pub mod Settings
@@ -18,16 +17,10 @@ pub mod KeptLines
 pub mod KeptDataPort
 pub mod KeptSecondSet
 pub mod KeptCommands
-pub mod KeptFrames
+pub mod KeptDevices
 pub mod Kept
 pub mod Counting
 pub mod Run
 pub mod Modes
 pub mod AtMode
-pub mod Flags
-pub mod Code
-pub mod View
-pub mod Body
-pub mod Changed
-pub mod Told
 pub mod Worked

@@ -3,10 +3,10 @@ use Prim.Native.Nat.{ℕ, _-_, _/_, _%_}
 use mathlib.Core.Bool.{Bool, true, false, cond, not, _&&_, _||_}
 use lib.Dec.{eqb, leb}
 use lib.ListN.{length}
-use Rattle.translation.specs.Bits.{has}
+use Rattle.translation.specs.Bits.{has, within, setBit, clearBit, nibble}
 use Rattle.machine.specs.Settings.{Settings}
-use Rattle.machine.specs.State.{Public, Machine, withHost, withLocked, lift}
-use Rattle.machine.specs.Lines.{within, setBit, clearBit, nibble, atMode, secondSet, put, putCell, cellOf, mode, withMode, inputPort, outputPort}
+use Rattle.machine.specs.State.{Public, Machine, withHost, afterCommand, withOverlay, withLocked, lift}
+use Rattle.machine.specs.Lines.{atMode, secondSet, put, putCell, cellOf, mode, withMode, inputPort, outputPort}
 use Rattle.machine.specs.Lines.{keyboardOff, mouseOff, keyboardDisabled, keyboardEnabled, mouseDisabled, mouseEnabled}
 use Rattle.machine.specs.DataPort.{dropped}
 use Rattle.machine.specs.SecondSet.{secondOnly, secondCommand}
@@ -19,7 +19,7 @@ ps2Only c = within 0xA4 0xA9 c || (within 0xC1 0xC2 c || within 0xD2 0xD4 c)
 abbrev pub firstOnly : ℕ → Bool
 firstOnly c = within 0xA5 0xA6 c
 
--- The commands that the set of the start has not.
+-- The commands that the set of the start does not have.
 abbrev pub notInSet : Settings → ℕ → Bool
 notInSet x c = cond (x .secondSet) (firstOnly c) (secondOnly c)
 
@@ -45,8 +45,7 @@ cellNamed c = cond (within 0x61 0x7F c) (c - 0x60) 0
 
 -- Before any command acts: C is 1, the overlay ends, and the pending code is the command's own.
 abbrev pub commandWritten : ℕ → Public → Public
-commandWritten c p =
-    withHost p (record { command = true; pending = pendingOf c; cell = cellNamed c; overlay = false; nibble = 0 })
+commandWritten c p = withHost p (afterCommand (pendingOf c) (cellNamed c))
 
 -- a load that a command cuts short leaves no code
 unfoldable pub loadCut : Machine → Machine
@@ -54,9 +53,7 @@ loadCut m = cond (eqb (m .plain .host .pending) 3) (dropped m) m
 
 -- bits 4-7 of the status are replaced by this nibble
 abbrev pub overlaid : ℕ → Public → Public
-overlaid n p =
-    withHost p
-    (record { command = p .host .command; pending = p .host .pending; cell = p .host .cell; overlay = true; nibble = n })
+overlaid n p = withHost p (withOverlay (p .host) n)
 
 -- A nibble of P1 as an overlay stores it: with the second command set its bit 0 is 0 (document 02, W6).
 abbrev pub polled : ℕ → Public → ℕ
@@ -116,18 +113,19 @@ hasCode m = not (eqb (length (m .secret .code)) 0)
 unfoldable pub codeAsked : Machine → Machine
 codeAsked m = cond (hasCode m && not (secondSet (m .plain))) (lift (put 0xFA) m) (lift (put 0xF1) m)
 
-abbrev pub closed : Machine → Machine
-closed m = record { plain = withLocked (m .plain) true; secret = record { code = m .secret .code; position = 0 } }
+-- locked, nothing typed yet
+abbrev pub lockSet : Machine → Machine
+lockSet m = record { plain = withLocked (m .plain) true; secret = record { code = m .secret .code; position = 0 } }
 
--- A6h: with a code, locked, nothing typed yet, and cell 13h put unless it is 0
-unfoldable pub lockedUp : Machine → Machine
-lockedUp m = cond (hasCode m) (lift (putCell 0x13) (closed m)) m
+-- A6h: where there is a code, the lock is set and cell 13h put unless it is 0
+unfoldable pub lockCommand : Machine → Machine
+lockCommand m = cond (hasCode m) (lift (putCell 0x13) (lockSet m)) m
 
 -- A4h asks for the code, A5h drops it, A6h locks.
 unfoldable pub acts : ℕ → Machine → Machine
 acts c m =
     cond (eqb c 0xA4) (codeAsked m)
-    (cond (eqb c 0xA5) (dropped m) (cond (eqb c 0xA6) (lockedUp m) (lift (plainCommand c) m)))
+    (cond (eqb c 0xA5) (dropped m) (cond (eqb c 0xA6) (lockCommand m) (lift (plainCommand c) m)))
 
 -- Kind 3.
 unfoldable pub writeCommand : ℕ → Machine → Machine

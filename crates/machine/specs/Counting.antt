@@ -1,5 +1,5 @@
 -- Document 02, W5, said of events: which keys a lock counts and where it opens, by the list of all keys counted, and the promise that the machine,
--- which keeps a position alone, goes by that. It is proved in proofs/Laws/Counting.
+-- which keeps only a position, follows this rule. It is proved in proofs/Laws/Counting.
 use Prim.Native.Nat.{ℕ}
 use mathlib.Core.Path.{_≡_}
 use mathlib.Core.Bool.{Bool, true, false, cond, not, _&&_, _||_}
@@ -9,11 +9,11 @@ use Rattle.translation.specs.Frames.{Check, sound, parity, broken, noise, check
 use Rattle.translation.specs.ScanCodes.{Yielded, nothing, byte}
 use Rattle.machine.specs.State.{Public, Machine}
 use Rattle.machine.specs.Lines.{inhibited}
-use Rattle.machine.specs.Lock.{opening, reached}
-use Rattle.machine.specs.Frames.{ignored, translated}
+use Rattle.machine.specs.Lock.{codeTyped, reached}
+use Rattle.machine.specs.Devices.{ignored, translated}
 use Rattle.machine.specs.Events.{Event, value, refusal, step}
 
--- What an event has to do with the keys counted: this key is one of them, counting starts afresh, or neither.
+-- What an event does to the keys counted: it adds this key, it starts counting again, or neither.
 pub data Counting : Type 0 where
   counts : ℕ → Counting
   starts : Counting
@@ -46,10 +46,10 @@ keysWith starts keys = []
 keysWith passes keys = keys
 
 -- The lock opens at a key that is counted, by the rule, and at nothing else.
-unfoldable pub opensWith : List ℕ → Counting → List ℕ → Bool
-opensWith code (counts x) keys = opening code (x ∷ keys)
-opensWith code starts keys = false
-opensWith code passes keys = false
+unfoldable pub countingCompletes : List ℕ → Counting → List ℕ → Bool
+countingCompletes code (counts x) keys = codeTyped code (x ∷ keys)
+countingCompletes code starts keys = false
+countingCompletes code passes keys = false
 
 -- the keys counted after a list of events, where these were before it
 unfoldable pub keysAfter : Machine → List Event → List ℕ → List ℕ
@@ -59,4 +59,4 @@ keysAfter m (e ∷ es) keys = keysAfter (step m e) es (keysWith (counting (m .pl
 -- Locked, the machine has the position that the keys lead to, and each event opens the lock exactly if the rule says so.
 pub record ByRule (m : Machine) (keys : List ℕ) : Type 0 where
   pub position : m .plain .locked ≡ true → m .secret .position ≡ reached (m .secret .code) keys
-  pub opens : (e : Event) → m .plain .locked ≡ true → step m e .plain .locked ≡ not (opensWith (m .secret .code) (counting (m .plain) e) keys)
+  pub unlocks : (e : Event) → m .plain .locked ≡ true → step m e .plain .locked ≡ not (countingCompletes (m .secret .code) (counting (m .plain) e) keys)

@@ -6,19 +6,16 @@ use lib.ListN.{length, set}
 use lib.Dec.{eqb, leb}
 use Rattle.translation.specs.Bits.{has}
 use Rattle.machine.specs.State.{Public, Host, Machine, withHost, withPorts, withRam, withSending, lift, withSecret}
+use Rattle.machine.specs.State.{withPending, withCommandFlag, withLowLatches, withHighLatches}
 use Rattle.machine.specs.Lines.{atMode, secondSet, put, putMouse, withMode, keyboardEnabled}
 
 -- no pending code
 abbrev pub settled : Public → Public
-settled p =
-    withHost p
-    (record { command = p .host .command; pending = 0; cell = 0; overlay = p .host .overlay; nibble = p .host .nibble })
+settled p = withHost p (withPending (p .host) 0 0)
 
 -- C becomes 0
 abbrev pub dataWritten : Public → Public
-dataWritten p =
-    withHost p
-    (record { command = false; pending = p .host .pending; cell = p .host .cell; overlay = p .host .overlay; nibble = p .host .nibble })
+dataWritten p = withHost p (withCommandFlag (p .host) false)
 
 -- a byte handed to the transmitter
 abbrev pub send : ℕ → ℕ → Public → Public
@@ -30,35 +27,11 @@ sendKeyboard v p = send 1 v (keyboardEnabled p)
 
 -- the latches of P20 and P21
 abbrev pub lowLatched : Bool → Bool → Public → Public
-lowLatched a b p =
-    let q = p .ports in
-    withPorts p
-    (record {
-      pins = q .pins;
-      p20 = a;
-      p21 = b;
-      p22 = q .p22;
-      p23 = q .p23;
-      p25 = q .p25;
-      inputLatches = q .inputLatches;
-      highAllowed = q .highAllowed;
-    })
+lowLatched a b p = withPorts p (withLowLatches (p .ports) a b)
 
 -- those of P22, P23 and P25
 abbrev pub highLatched : Bool → Bool → Bool → Public → Public
-highLatched a b c p =
-    let q = p .ports in
-    withPorts p
-    (record {
-      pins = q .pins;
-      p20 = q .p20;
-      p21 = q .p21;
-      p22 = a;
-      p23 = b;
-      p25 = c;
-      inputLatches = q .inputLatches;
-      highAllowed = q .highAllowed;
-    })
+highLatched a b c p = withPorts p (withHighLatches (p .ports) a b c)
 
 -- D1h may write P22 and P23: with the second command set while C8h allows it (document 02, W6), with the first in AT mode.
 abbrev pub highWritable : Public → Bool

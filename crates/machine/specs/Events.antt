@@ -1,14 +1,15 @@
 -- "Events", "Refusing" 1-6, document 02's check 12, and "Answers": one event, the machine after it and its nine answer bytes.
-use Prim.Native.Nat.{ℕ, _+_, _*_, _/_, _%_}
+use Prim.Native.Nat.{ℕ, _/_, _%_}
 use mathlib.Core.Bool.{Bool, true, false, cond, not, _&&_, _||_}
 use mathlib.Core.List.{List, [], _∷_}
 use lib.Dec.{eqb, leb, ltb}
 use Rattle.translation.specs.Frames.{check, frame}
 use Rattle.machine.specs.State.{Public, Output, Machine, withOutput, lift}
-use Rattle.machine.specs.Lines.{atMode, status, outputPort, inputFull, keyboardOff, mouseOff, weight}
+use Rattle.translation.specs.Bits.{weight, word}
+use Rattle.machine.specs.Lines.{atMode, status, outputPort, inputFull, keyboardOff, mouseOff}
 use Rattle.machine.specs.DataPort.{writeData}
 use Rattle.machine.specs.Commands.{writeCommand, pulseOf}
-use Rattle.machine.specs.Frames.{keyboardFrame, mouseFrame, taken, timedOut, pinned}
+use Rattle.machine.specs.Devices.{keyboardFrame, mouseFrame, taken, timedOut, pinned}
 
 -- Three bytes: the kind, and the value low byte first.
 pub record Event : Type 0 where
@@ -19,11 +20,8 @@ pub record Event : Type 0 where
 abbrev pub event : ℕ → ℕ → ℕ → Event
 event k l h = record { kind = k; low = l; high = h }
 
-abbrev pub valueOf : ℕ → ℕ → ℕ
-valueOf low high = low + 256 * high
-
 abbrev pub value : Event → ℕ
-value e = valueOf (e .low) (e .high)
+value e = word (e .low) (e .high)
 
 -- Kinds 1 and 3 are writes, 4 and 5 frames, 6 and 7 end a byte that is being sent.
 abbrev pub isWrite : ℕ → Bool
@@ -39,7 +37,7 @@ endsSending k = eqb k 6 || eqb k 7
 abbrev pub limit : ℕ → ℕ
 limit k = cond (isWrite k || eqb k 8) 255 (cond (isFrame k) 2047 0)
 
--- a frame from the mouse, of which AT mode has none (document 02, W3)
+-- a mouse frame in AT mode, which has no mouse (document 02, W3)
 abbrev pub fromNoMouse : Public → ℕ → Bool
 fromNoMouse p k = eqb k 5 && atMode p
 
@@ -48,19 +46,18 @@ abbrev pub deviceOff : Public → ℕ → Bool
 deviceOff p k = cond (eqb k 4) (keyboardOff p) (mouseOff p)
 
 -- a frame finds its device off, OBF 1 or IBF 1
-abbrev pub noRoom : Public → ℕ → Bool
-noRoom p k = deviceOff p k || (p .output .full || inputFull p)
-
--- the first of the checks 12 and 3 to 6 that stands
-abbrev pub numbered : Bool → Bool → Bool → Bool → Bool → ℕ
-numbered absent busy locked early idle = cond absent 12 (cond busy 3 (cond locked 4 (cond early 5 (cond idle 6 0))))
+abbrev pub cannotReceive : Public → ℕ → Bool
+cannotReceive p k = deviceOff p k || (p .output .full || inputFull p)
 
 -- Check 12 and then 3 to 6, which go by the state.
 unfoldable pub stateRefusal : Public → ℕ → ℕ
 stateRefusal p k =
-    numbered (fromNoMouse p k) (isWrite k && inputFull p) (isWrite k && p .locked) (isFrame k && noRoom p k) (endsSending k && not (inputFull p))
+    cond (fromNoMouse p k) 12
+    (cond (isWrite k && inputFull p) 3
+    (cond (isWrite k && p .locked) 4
+    (cond (isFrame k && cannotReceive p k) 5 (cond (endsSending k && not (inputFull p)) 6 0))))
 
--- The first check that stands, by its number; 0 is none.
+-- The number of the first check that refuses the event; 0 if none does.
 unfoldable pub refusal : Public → Event → ℕ
 refusal p e =
     cond (ltb 8 (e .kind)) 1 (cond (ltb (limit (e .kind)) (value e)) 2 (stateRefusal p (e .kind)))
@@ -96,7 +93,7 @@ oldMark p k = weight 1 (eqb k 0 && not (p .output .full))
 abbrev pub pulse : Public → Event → ℕ
 pulse p e = cond (eqb (e .kind) 3) (pulseOf (p .settings) (value e)) 0
 
--- the frame being sent, 0 with nobody
+-- the frame being sent, or 0 if nothing is being sent
 abbrev pub sentFrame : Public → ℕ
 sentFrame p = cond (inputFull p) (frame (p .sending .byte)) 0
 

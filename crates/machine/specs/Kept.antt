@@ -1,4 +1,4 @@
--- "Saved image", the body rules, said of a machine: what every machine keeps that comes from a fresh one or from an image.
+-- "Saved image", the body rules, said of a machine: what holds of every machine that comes from a start or from an image.
 use Prim.Native.Nat.{ℕ, _≤_, _<_}
 use mathlib.Core.Path.{_≡_}
 use mathlib.Core.Bool.{true, false}
@@ -36,7 +36,8 @@ pub record Kept (m : Machine) : Type 0 where
   pub noSent : m .plain .sending .to ≡ 0 → m .plain .sending .byte ≡ 0
   pub code : length (m .secret .code) ≤ 16
   pub codeBytes : (k : ℕ) → k < length (m .secret .code) → (1 ≤ getD (m .secret .code) k 0) × (getD (m .secret .code) k 0 < 256)
-  -- locked needs a code, no pending code and nobody sent to; the position is below the code's length then, else 0
+  -- when locked there is a code, no pending code and no byte being sent, and the position is below the code's length; when not locked the position
+  -- is 0
   pub locked : m .plain .locked ≡ true → (m .secret .position < length (m .secret .code)) × (m .plain .host .pending ≡ 0) × (m .plain .sending .to ≡ 0)
   pub unlocked : m .plain .locked ≡ false → m .secret .position ≡ 0
   pub ram : length (m .plain .ram) ≡ 32

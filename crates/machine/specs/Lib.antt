@@ -5,14 +5,10 @@ pub mod DataPort
 pub mod SecondSet
 pub mod Commands
 pub mod Lock
-pub mod Frames
+pub mod Devices
 pub mod Events
 pub mod Run
 pub mod Kept
 pub mod Counting
 pub mod Modes
-pub mod Flags
-pub mod View
-pub mod Changed
-pub mod Told
 pub mod Worked

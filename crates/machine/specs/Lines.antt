@@ -1,26 +1,11 @@
 -- "State and lines", what the state shows on the lines: the mode byte's bits, status, the output port P2, and a byte put for the host.
-use Prim.Native.Nat.{ℕ, _+_, _-_, _*_, _^_, _%_}
+use Prim.Native.Nat.{ℕ, _+_, _*_, _%_}
 use mathlib.Core.Bool.{Bool, true, false, cond, not, _&&_}
 use lib.ListN.{getD, set}
-use lib.Dec.{eqb, leb}
+use lib.Dec.{eqb}
 use lib.Bits.{bitAnd, bitOr}
-use Rattle.translation.specs.Bits.{bit, has}
+use Rattle.translation.specs.Bits.{has, setBit, clearBit, nibble}
 use Rattle.machine.specs.State.{Public, Output, withOutput, withRam}
-
--- w where the line is set, else 0
-abbrev pub weight : ℕ → Bool → ℕ
-weight w b = cond b w 0
-
--- c is one of the numbers from low to high
-abbrev pub within : ℕ → ℕ → ℕ → Bool
-within low high c = leb low c && leb c high
-
--- bit k of n set or cleared
-abbrev pub setBit : ℕ → ℕ → ℕ
-setBit n k = n - bit n k * 2 ^ k + 2 ^ k
-
-abbrev pub clearBit : ℕ → ℕ → ℕ
-clearBit n k = n - bit n k * 2 ^ k
 
 -- started in AT mode (document 02, W3), else in PS/2 mode
 abbrev pub atMode : Public → Bool
@@ -94,10 +79,6 @@ inhibited p = not (keySwitch p) && not (override p)
 -- With the mouse lock it keeps the mouse from the host too, and the mode byte does not override that (document 02, W1).
 abbrev pub mouseInhibited : Public → Bool
 mouseInhibited p = p .settings .mouseLock && not (keySwitch p)
-
--- four lines as a number, the first the lowest
-unfoldable pub nibble : Bool → Bool → Bool → Bool → ℕ
-nibble a b c d = weight 1 a + weight 2 b + weight 4 c + weight 8 d
 
 -- Status bit 5: OBF with mouse source; in AT mode the transmit time-out.
 abbrev pub statusBit5 : Public → Bool

@@ -17,15 +17,15 @@ unfoldable pub endWith : List ℕ → List ℕ → Bool
 endWith keys bytes = same (take (length bytes) keys) (reverse bytes)
 
 -- The rule: the newest key opens the lock exactly if the keys end with the code.
-abbrev pub opening : List ℕ → List ℕ → Bool
-opening code keys = endWith keys code
+abbrev pub codeTyped : List ℕ → List ℕ → Bool
+codeTyped code keys = endWith keys code
 
 -- the longest beginning of the code, of at most n bytes, that the keys end with
 unfoldable pub longest : List ℕ → ℕ → List ℕ → ℕ
 longest code zero keys = zero
 longest code (suc n) keys = cond (endWith keys (take (suc n) code)) (suc n) (longest code n keys)
 
--- how many bytes a beginning has at most that is shorter than the code
+-- the most bytes that a beginning shorter than the code can have
 abbrev pub shorter : List ℕ → ℕ
 shorter code = length code - 1
 
@@ -33,13 +33,13 @@ shorter code = length code - 1
 abbrev pub reached : List ℕ → List ℕ → ℕ
 reached code keys = longest code (shorter code) keys
 
--- The keys that a position stands for, those counted after a load of it: the code's first bytes, as many.
+-- The keys that a position stands for, and that count as typed after a load: the first bytes of the code, as many as the position says.
 unfoldable pub begun : List ℕ → ℕ → List ℕ
 begun code k = reverse (take k code)
 
 -- One key more behind those that position k stands for: whether it opens the lock, and the position that it leads to.
-abbrev pub keyOpens : List ℕ → ℕ → ℕ → Bool
-keyOpens code k x = opening code (x ∷ begun code k)
+abbrev pub keyCompletes : List ℕ → ℕ → ℕ → Bool
+keyCompletes code k x = codeTyped code (x ∷ begun code k)
 
 abbrev pub keyLeads : List ℕ → ℕ → ℕ → ℕ
 keyLeads code k x = reached code (x ∷ begun code k)

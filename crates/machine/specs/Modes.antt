@@ -1,20 +1,20 @@
 -- Document 02, W3 and W6: what is true of the modes and the command sets. In PS/2 mode with the first set each rule that looks at mode or set is
--- document 01's, and what AT mode and the second set add to the state stays as it is. In AT mode a machine from fresh never has what that mode
--- left out.
+-- document 01's, and what AT mode and the second set add to the state stays as it is. A machine started in AT mode never has what that mode leaves
+-- out.
 use Prim.Native.Nat.{ℕ, _+_, _*_, _%_}
 use mathlib.Core.List.{[]}
 use mathlib.Core.Path.{_≡_}
 use mathlib.Core.Bool.{Bool, true, false, cond, not, _&&_}
 use lib.Dec.{leb}
-use Rattle.translation.specs.Bits.{has}
-use Rattle.machine.specs.State.{Public, Machine, withErrors, withPorts, lift}
-use Rattle.machine.specs.Lines.{nibble, put, inputPort, keySwitch, inputFull, keyboardOff, mouseOff, keyboardRequest, mouseRequest}
+use Rattle.translation.specs.Bits.{has, nibble}
+use Rattle.machine.specs.State.{Public, Machine, withErrors, withPorts, withLowLatches, lift}
+use Rattle.machine.specs.Lines.{put, inputPort, keySwitch, inputFull, keyboardOff, mouseOff, keyboardRequest, mouseRequest}
 use Rattle.machine.specs.Lines.{highNibble, outputPort}
 use Rattle.machine.specs.DataPort.{latched}
 use Rattle.machine.specs.SecondSet.{secondOnly, secondCommand}
 use Rattle.machine.specs.Commands.{commandWritten, loadCut, polled, hasCode, codeAsked, acts, writeCommand, testInputs, pulseOf}
-use Rattle.machine.specs.Frames.{errorsSet, notTaken}
-use Rattle.machine.specs.Events.{isWrite, isFrame, endsSending, noRoom, stateRefusal}
+use Rattle.machine.specs.Devices.{errorsSet, notTaken}
+use Rattle.machine.specs.Events.{isWrite, isFrame, endsSending, cannotReceive, stateRefusal}
 
 pub record Ps2Rules (m : Machine) : Type 0 where
   -- P1, the status' bits 4-7, and P2
@@ -33,17 +33,7 @@ pub record Ps2Rules (m : Machine) : Type 0 where
   pub asked : codeAsked m ≡ cond (hasCode m) (lift (put 0xFA) m) (lift (put 0xF1) m)
   pub overlays : (n : ℕ) → polled n (m .plain) ≡ n
   pub latches : (v : ℕ) → latched v (m .plain) ≡
-      withPorts (m .plain)
-      (record {
-        pins = m .plain .ports .pins;
-        p20 = has v 0;
-        p21 = has v 1;
-        p22 = m .plain .ports .p22;
-        p23 = m .plain .ports .p23;
-        p25 = m .plain .ports .p25;
-        inputLatches = m .plain .ports .inputLatches;
-        highAllowed = m .plain .ports .highAllowed;
-      })
+      withPorts (m .plain) (withLowLatches (m .plain .ports) (has v 0) (has v 1))
   pub inputs : testInputs (m .plain) ≡ nibble (not (keyboardOff (m .plain))) (not (mouseOff (m .plain))) false false
   pub pulses : (c : ℕ) → pulseOf (m .plain .settings) c ≡ cond (leb 0xF0 c) (nibble (not (has c 0)) (not (has c 1)) false false) 0
   -- TERR and PERR after a frame or a byte that was taken, and after one that was not
@@ -53,7 +43,7 @@ pub record Ps2Rules (m : Machine) : Type 0 where
   pub checks : (k : ℕ) → stateRefusal (m .plain) k ≡
       cond (isWrite k && inputFull (m .plain)) 3
       (cond (isWrite k && m .plain .locked) 4
-      (cond (isFrame k && noRoom (m .plain) k) 5 (cond (endsSending k && not (inputFull (m .plain))) 6 0)))
+      (cond (isFrame k && cannotReceive (m .plain) k) 5 (cond (endsSending k && not (inputFull (m .plain))) 6 0)))
 
 -- The pending codes of AT mode: not those of a load, of the output buffer, of a byte to the mouse.
 abbrev pub AtCode : ℕ → Type 0

@@ -11,7 +11,7 @@ use Rattle.machine.specs.Events.{Event, event, step, answer}
 abbrev pub first : List ℕ → Event
 first list = event (getD list 0 0) (getD list 1 0) (getD list 2 0)
 
--- the events of a list of bytes; fewer than three bytes at its end are none
+-- the events of a list of bytes; one or two bytes at its end are not an event
 unfoldable pub events : List ℕ → List Event
 events [] = []
 events (k ∷ []) = []

@@ -3,30 +3,18 @@ use Prim.Native.Nat.{ℕ, _-_, _%_, _^_}
 use mathlib.Core.Bool.{Bool, true, false, cond, not, _||_}
 use lib.Dec.{eqb, leb, ltb}
 use lib.Bits.{bitAnd, bitOr}
-use Rattle.translation.specs.Bits.{has}
-use Rattle.machine.specs.State.{Public, withPorts}
-use Rattle.machine.specs.Lines.{within, weight, atMode, put}
+use Rattle.translation.specs.Bits.{has, within, weight}
+use Rattle.machine.specs.State.{Public, withPorts, withInputLatches, withHighAllowed}
+use Rattle.machine.specs.Lines.{atMode, put}
 use Rattle.machine.specs.DataPort.{lowLatched, highLatched}
 
--- The commands that the second set has and the first has not.
+-- The commands that only the second set has.
 abbrev pub secondOnly : ℕ → Bool
 secondOnly c = within 0x90 0x9F c || (within 0xB0 0xBF c || (within 0xE1 0xEF c || (eqb c 0xA1 || (eqb c 0xAF || within 0xC8 0xCA c))))
 
 -- the latches of P10-P15 as a whole
 abbrev pub inputLatched : ℕ → Public → Public
-inputLatched n p =
-    let q = p .ports in
-    withPorts p
-    (record {
-      pins = q .pins;
-      p20 = q .p20;
-      p21 = q .p21;
-      p22 = q .p22;
-      p23 = q .p23;
-      p25 = q .p25;
-      inputLatches = n;
-      highAllowed = q .highAllowed;
-    })
+inputLatched n p = withPorts p (withInputLatches (p .ports) n)
 
 -- 9xh: the low nibble to P13-P10; P14 and P15 keep theirs
 abbrev pub lowLinesWritten : ℕ → Public → Public
@@ -47,27 +35,15 @@ lineWritten k on p =
 
 -- C8h and C9h: whether D1h may write P22 and P23
 abbrev pub permitted : Bool → Public → Public
-permitted on p =
-    let q = p .ports in
-    withPorts p
-    (record {
-      pins = q .pins;
-      p20 = q .p20;
-      p21 = q .p21;
-      p22 = q .p22;
-      p23 = q .p23;
-      p25 = q .p25;
-      inputLatches = q .inputLatches;
-      highAllowed = on;
-    })
+permitted on p = withPorts p (withHighAllowed (p .ports) on)
 
 -- E1h-EFh: P23-P21 from bits 3-1
 abbrev pub outputLinesSet : ℕ → Public → Public
 outputLinesSet c p = highLatched (has c 2) (has c 3) (p .ports .p25) (lowLatched (p .ports .p20) (has c 1) p)
 
 -- CAh: 1 in PS/2 mode, 0 in AT mode
-abbrev pub modePut : Public → Public
-modePut p = put (weight 1 (not (atMode p))) p
+abbrev pub modeReported : Public → Public
+modeReported p = put (weight 1 (not (atMode p))) p
 
 -- A1h and AFh
 abbrev pub versionPut : Public → Public
@@ -78,7 +54,7 @@ unfoldable pub singleCommand : ℕ → Public → Public
 singleCommand c p =
     cond (eqb c 0xA1) (versionPut p)
     (cond (eqb c 0xAF) (versionPut p)
-    (cond (eqb c 0xC8) (permitted true p) (cond (eqb c 0xC9) (permitted false p) (cond (eqb c 0xCA) (modePut p) p))))
+    (cond (eqb c 0xC8) (permitted true p) (cond (eqb c 0xC9) (permitted false p) (cond (eqb c 0xCA) (modeReported p) p))))
 
 unfoldable pub secondCommand : ℕ → Public → Public
 secondCommand c p =

@@ -1,5 +1,4 @@
--- Document 02, W1, W3, W6 and W7: what a start names. It is part of the state, and no event changes it. A start that can name more has a field more
--- here.
+-- Document 02, W1, W3, W6 and W7: what a start names. It is part of the state, and no event changes it. A new setting is a new field here.
 use Prim.Native.Nat.{ℕ}
 use mathlib.Core.Bool.{Bool, false}
 use mathlib.Core.List.{List}

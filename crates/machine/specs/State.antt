@@ -26,6 +26,20 @@ pub record Host : Type 0 where
   pub overlay : Bool
   pub nibble : ℕ
 
+-- after a command that leaves this code and this cell: C is 1, and there is no overlay
+abbrev pub afterCommand : ℕ → ℕ → Host
+afterCommand code cell = record { command = true; pending = code; cell = cell; overlay = false; nibble = 0 }
+
+-- one part of it replaced
+abbrev pub withCommandFlag : Host → Bool → Host
+withCommandFlag h x = record { command = x; pending = h .pending; cell = h .cell; overlay = h .overlay; nibble = h .nibble }
+
+abbrev pub withPending : Host → ℕ → ℕ → Host
+withPending h code cell = record { command = h .command; pending = code; cell = cell; overlay = h .overlay; nibble = h .nibble }
+
+abbrev pub withOverlay : Host → ℕ → Host
+withOverlay h n = record { command = h .command; pending = h .pending; cell = h .cell; overlay = true; nibble = n }
+
 -- Input port pins P1; the latches of output port lines: P20, P21, and those that AT mode and the second command set have besides; and of the
 -- second set (document 02, W6) the latches of P10-P15, in bits 0-5, and whether D1h may write P22 and P23.
 pub record Ports : Type 0 where
@@ -37,6 +51,22 @@ pub record Ports : Type 0 where
   pub p25 : Bool
   pub inputLatches : ℕ
   pub highAllowed : Bool
+
+-- one part of them replaced
+abbrev pub withPins : Ports → ℕ → Ports
+withPins q x = record { pins = x; p20 = q .p20; p21 = q .p21; p22 = q .p22; p23 = q .p23; p25 = q .p25; inputLatches = q .inputLatches; highAllowed = q .highAllowed }
+
+abbrev pub withLowLatches : Ports → Bool → Bool → Ports
+withLowLatches q a b = record { pins = q .pins; p20 = a; p21 = b; p22 = q .p22; p23 = q .p23; p25 = q .p25; inputLatches = q .inputLatches; highAllowed = q .highAllowed }
+
+abbrev pub withHighLatches : Ports → Bool → Bool → Bool → Ports
+withHighLatches q a b c = record { pins = q .pins; p20 = q .p20; p21 = q .p21; p22 = a; p23 = b; p25 = c; inputLatches = q .inputLatches; highAllowed = q .highAllowed }
+
+abbrev pub withInputLatches : Ports → ℕ → Ports
+withInputLatches q x = record { pins = q .pins; p20 = q .p20; p21 = q .p21; p22 = q .p22; p23 = q .p23; p25 = q .p25; inputLatches = x; highAllowed = q .highAllowed }
+
+abbrev pub withHighAllowed : Ports → Bool → Ports
+withHighAllowed q x = record { pins = q .pins; p20 = q .p20; p21 = q .p21; p22 = q .p22; p23 = q .p23; p25 = q .p25; inputLatches = q .inputLatches; highAllowed = x }
 
 -- The transmitter: whom a byte is being sent to (0 nobody, 1 keyboard, 2 mouse), and the byte.
 pub record Sending : Type 0 where

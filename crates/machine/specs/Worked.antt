@@ -6,7 +6,7 @@ use mathlib.Core.List.{List, [], _∷_, _++_, map}
 use lib.ListN.{getD}
 use lib.Dec.{eqb}
 use Rattle.translation.specs.Frames.{Check, sound, parity, broken, noise, check, frame}
-use Rattle.translation.specs.KeyTable.{from}
+use Rattle.translation.specs.KeyTable.{numbersFrom}
 use Rattle.machine.specs.Settings.{ordinary}
 use Rattle.machine.specs.State.{Machine, fresh}
 use Rattle.machine.specs.Lock.{same}
@@ -19,16 +19,16 @@ pub data Row : Type 0 where
   -- The check finds this of the frame, and the status and the byte read after it, untranslated, show as much.
   found : ℕ → Check → Row
   -- With this code loaded and the lock closed, keys of these set 2 bytes open it at the last one, and it is closed before each.
-  opens : List ℕ → List ℕ → Row
+  unlocks : List ℕ → List ℕ → Row
   -- Of a load of this many nonzero bytes and 00h, A4h says that there is a code and the code is these bytes, or that there is none.
   loads : ℕ → Bool → Row
 
 -- the host's writes and reads, and a frame from the keyboard
-abbrev pub command : ℕ → Event
-command c = event 3 c 0
+abbrev pub commandWrite : ℕ → Event
+commandWrite c = event 3 c 0
 
-abbrev pub written : ℕ → Event
-written v = event 1 v 0
+abbrev pub dataWrite : ℕ → Event
+dataWrite v = event 1 v 0
 
 abbrev pub dataRead : Event
 dataRead = event 0 0 0
@@ -51,8 +51,8 @@ typed [] = []
 typed (b ∷ bs) = key b ∷ dataRead ∷ typed bs
 
 -- a code loaded by A5h and ended by 00h
-abbrev pub loaded : List ℕ → List Event
-loaded code = command 0xA5 ∷ (map written code ++ (written 0 ∷ []))
+abbrev pub loadEvents : List ℕ → List Event
+loadEvents code = commandWrite 0xA5 ∷ (map dataWrite code ++ (dataWrite 0 ∷ []))
 
 -- the byte of an accepted read that is not marked old
 abbrev pub newByte : ℕ → List ℕ → List ℕ
@@ -72,27 +72,27 @@ shown broken = 0x51 ∷ 0xFF ∷ []
 shown noise = 0x10 ∷ []
 
 -- closed before each key, open after the last
-abbrev pub opensAt : Machine → List ℕ → Bool
-opensAt m [] = not (m .plain .locked)
-opensAt m (b ∷ bs) = m .plain .locked && opensAt (step m (key b)) bs
+abbrev pub unlockedAtEnd : Machine → List ℕ → Bool
+unlockedAtEnd m [] = not (m .plain .locked)
+unlockedAtEnd m (b ∷ bs) = m .plain .locked && unlockedAtEnd (step m (key b)) bs
 
 -- a load of the bytes 1 to n and 00h, which goes to the keyboard where the load has ended before it
-abbrev pub loading : ℕ → List Event
-loading n = loaded (from 1 n) ++ (byteTaken ∷ [])
+abbrev pub loadOfCount : ℕ → List Event
+loadOfCount n = loadEvents (numbersFrom 1 n) ++ (byteTaken ∷ [])
 
 abbrev pub codeAfter : List Event → List ℕ
 codeAfter es = after (fresh ordinary) es .secret .code
 
 -- What a row says, of the machine from fresh. The mode byte 00h has the keyboard on and translation off.
 unfoldable pub holds : Row → Bool
-holds (gives bytes codes) = same (reads (fresh ordinary) (command 0xAE ∷ typed bytes)) codes
+holds (gives bytes codes) = same (reads (fresh ordinary) (commandWrite 0xAE ∷ typed bytes)) codes
 holds (found f c) =
     same (shown (check f)) (shown c)
-    && same (reads (fresh ordinary) (command 0x60 ∷ written 0 ∷ frameEvent f ∷ statusRead ∷ dataRead ∷ [])) (shown c)
-holds (opens code bytes) = opensAt (after (fresh ordinary) (command 0xAE ∷ (loaded code ++ (command 0xA6 ∷ [])))) bytes
+    && same (reads (fresh ordinary) (commandWrite 0x60 ∷ dataWrite 0 ∷ frameEvent f ∷ statusRead ∷ dataRead ∷ [])) (shown c)
+holds (unlocks code bytes) = unlockedAtEnd (after (fresh ordinary) (commandWrite 0xAE ∷ (loadEvents code ++ (commandWrite 0xA6 ∷ [])))) bytes
 holds (loads n ok) =
-    same (codeAfter (loading n)) (cond ok (from 1 n) [])
-    && same (reads (fresh ordinary) (loading n ++ (command 0xA4 ∷ dataRead ∷ []))) (cond ok 0xFA 0xF1 ∷ [])
+    same (codeAfter (loadOfCount n)) (cond ok (numbersFrom 1 n) [])
+    && same (reads (fresh ordinary) (loadOfCount n ++ (commandWrite 0xA4 ∷ dataRead ∷ []))) (cond ok 0xFA 0xF1 ∷ [])
 
 -- every row of a table holds
 unfoldable pub allHold : List Row → Bool
@@ -112,12 +112,12 @@ table =
     found 0x628 (sound 0x14) ∷
     found 0x428 parity ∷
     found 2047 noise ∷
-    opens (0x1E ∷ 0x30 ∷ []) (0x1C ∷ 0x32 ∷ []) ∷
+    unlocks (0x1E ∷ 0x30 ∷ []) (0x1C ∷ 0x32 ∷ []) ∷
     loads 16 true ∷
     loads 17 false ∷ []
 
 -- Document 02, W5: the code is the keys A A B, and before it comes one A too many, or A B.
-unfoldable pub slips : List Row
-slips =
-    opens (0x1E ∷ 0x1E ∷ 0x30 ∷ []) (0x1C ∷ 0x1C ∷ 0x1C ∷ 0x32 ∷ []) ∷
-    opens (0x1E ∷ 0x1E ∷ 0x30 ∷ []) (0x1C ∷ 0x32 ∷ 0x1C ∷ 0x1C ∷ 0x32 ∷ []) ∷ []
+unfoldable pub mismatches : List Row
+mismatches =
+    unlocks (0x1E ∷ 0x1E ∷ 0x30 ∷ []) (0x1C ∷ 0x1C ∷ 0x1C ∷ 0x32 ∷ []) ∷
+    unlocks (0x1E ∷ 0x1E ∷ 0x30 ∷ []) (0x1C ∷ 0x32 ∷ 0x1C ∷ 0x1C ∷ 0x32 ∷ []) ∷ []

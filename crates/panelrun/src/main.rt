@@ -1,10 +1,10 @@
 // Reads a list of events to the end of standard input, and prints its page.
 use libc::STDIN_FILENO;
 use libc::STDOUT_FILENO;
-use machine::settings::ordinary;
 use printing::page::print_list;
+use state::settings::ordinary;
 
-// One byte more than the longest list, so that a longer input is seen to be one.
+// One byte more than the longest list, so that a longer input is noticed.
 const READ_MOST: usize = 21001;
 // The answers to 7,000 events, nine bytes each.
 const ANSWERS: usize = 63000;

@@ -8,7 +8,8 @@ use Rattle.machine.specs.State.{fresh}
 use Rattle.machine.specs.Run.{events, answers, lengthRefusal}
 use Rattle.machine.specs.Events.{stateRefusal, refusal, accept, step, reply, lines as levels}
 use Rattle.machine.specs.Commands.{pendingOf, loadCut, plainCommand, acts, writeCommand, pulseOf}
-use Rattle.machine.specs.Lines.{nibble, inputPort, highNibble, status, outputPort, putCell}
+use Rattle.translation.specs.Bits.{nibble}
+use Rattle.machine.specs.Lines.{inputPort, highNibble, status, outputPort, putCell}
 use Rattle.printing.specs.Hex.{hexDigit, hexByte}
 use Rattle.printing.specs.Lines.{spaced, line, lines}
 use Rattle.printing.specs.Page.{header, refusedLength, answered, page}

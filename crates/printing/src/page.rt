@@ -2,12 +2,12 @@
 use crate::lines::write_lines;
 use controller::run::list_refusal;
 use controller::run::run_fresh;
-use machine::settings::Settings;
+use state::settings::Settings;
 ghost use mathlib.Core.Path.{_≡_};
 ghost use mathlib.Core.List.{_++_};
 ghost use Prim.Native.Nat.{_+_, _*_, _≤_};
 ghost use lib.ListN.{length};
-ghost use Rattle.machine.specs.View.{named};
+ghost use Rattle.state.specs.View.{named};
 ghost use Rattle.printing.specs.Lines.{lines};
 ghost use Rattle.printing.specs.Page.{header, refusedText, refusedLength, over, Written, Printed};
 

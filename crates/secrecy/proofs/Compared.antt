@@ -8,7 +8,7 @@ use Rattle.machine.specs.Settings.{Settings}
 use Rattle.machine.specs.State.{Machine, fresh}
 use Rattle.machine.specs.Events.{Event}
 use Rattle.machine.specs.Run.{events, answers, filled, fitting, listRefusal}
-use Rattle.machine.specs.View.{view}
+use Rattle.state.specs.View.{view}
 use Rattle.machine.proofs.Laws.Run.{take-filled, listRefusal-length}
 use Rattle.controller.specs.Promises.{FreshRun, FittingRun}
 use Rattle.secrecy.specs.Compared.{ListsCompared, FittingCompared}

@@ -14,12 +14,12 @@ use Rattle.machine.specs.Settings.{Settings}
 use Rattle.machine.specs.State.{fresh}
 use Rattle.machine.specs.Lines.{inputPort, putCell}
 use Rattle.machine.specs.DataPort.{loadByte, writeData}
-use Rattle.machine.specs.Commands.{pendingOf, loadCut, plainCommand, lockedUp, acts, writeCommand}
+use Rattle.machine.specs.Commands.{pendingOf, loadCut, plainCommand, lockCommand, acts, writeCommand}
 use Rattle.machine.specs.Lock.{endWith, longest, begun}
-use Rattle.machine.specs.Frames.{counted, try, keyed, keyedByte, translated, soundKey, keyboardFrame}
+use Rattle.machine.specs.Devices.{keyMatched, try, yieldDelivered, byteDelivered, translated, soundKey, keyboardFrame}
 use Rattle.machine.specs.Events.{Event, refusal, stateRefusal, accept, step}
 use Rattle.machine.specs.Run.{after}
-use Rattle.secrecy.specs.Paired.{At, before, Allowed, same, loading, trying, opens, Paired}
+use Rattle.secrecy.specs.Paired.{At, before, Allowed, same, loading, trying, opensAt, Paired}
 
 abbrev pub event : ℕ → ℕ → ℕ → Event
 event k l h = record { kind = k; low = l; high = h }
@@ -45,7 +45,7 @@ module _ (lock : Bool) (version : ℕ) where
   x = record { mouseLock = lock; atMode = false; secondSet = false; version = version; table = builtIn }
 
   differ : (k : ℕ) (e f : Event) → At first k e → At second k f → Allowed (before (fresh x) first k) e f
-  unfolding fresh after step refusal stateRefusal accept writeCommand acts loadCut pendingOf plainCommand lockedUp putCell writeData loadByte check ones
+  unfolding fresh after step refusal stateRefusal accept writeCommand acts loadCut pendingOf plainCommand lockCommand putCell writeData loadByte check ones
   differ zero e f p q = same (cc)
   differ (suc zero) e f p q = same (cc)
   differ (suc (suc zero)) e f p q =
@@ -60,16 +60,16 @@ module _ (lock : Bool) (version : ℕ) where
   differ (suc (suc (suc (suc (suc (suc k)))))) e f p q = same (cc)
 
   -- in both lists the lock opens at the last place and at no other
-  pub opens-last : (k : ℕ) → k < 6 → (opens (fresh x) first k ≡ eqb k 5) × (opens (fresh x) second k ≡ eqb k 5)
-  unfolding fresh after step refusal stateRefusal accept writeCommand acts loadCut pendingOf plainCommand lockedUp putCell writeData loadByte check ones
-      inputPort keyboardFrame soundKey translated translate builtIn rows keyed keyedByte try counted endWith longest begun
-  opens-last zero h = (refl, refl)
-  opens-last (suc zero) h = (refl, refl)
-  opens-last (suc (suc zero)) h = (refl, refl)
-  opens-last (suc (suc (suc zero))) h = (refl, refl)
-  opens-last (suc (suc (suc (suc zero)))) h = (refl, refl)
-  opens-last (suc (suc (suc (suc (suc zero))))) h = (refl, refl)
-  opens-last (suc (suc (suc (suc (suc (suc k)))))) h = absurd (omega arith)
+  pub opensAt-last : (k : ℕ) → k < 6 → (opensAt (fresh x) first k ≡ eqb k 5) × (opensAt (fresh x) second k ≡ eqb k 5)
+  unfolding fresh after step refusal stateRefusal accept writeCommand acts loadCut pendingOf plainCommand lockCommand putCell writeData loadByte check ones
+      inputPort keyboardFrame soundKey translated translate builtIn rows yieldDelivered byteDelivered try keyMatched endWith longest begun
+  opensAt-last zero h = (refl, refl)
+  opensAt-last (suc zero) h = (refl, refl)
+  opensAt-last (suc (suc zero)) h = (refl, refl)
+  opensAt-last (suc (suc (suc zero))) h = (refl, refl)
+  opensAt-last (suc (suc (suc (suc zero)))) h = (refl, refl)
+  opensAt-last (suc (suc (suc (suc (suc zero))))) h = (refl, refl)
+  opensAt-last (suc (suc (suc (suc (suc (suc k)))))) h = absurd (omega arith)
 
   pub paired : Paired (fresh x) first second
-  paired = record { lengths = refl; differ = differ; openings = λ k h. opens-last k h .0 ∙ sym (opens-last k h .1) }
+  paired = record { lengths = refl; differ = differ; openings = λ k h. opensAt-last k h .0 ∙ sym (opensAt-last k h .1) }

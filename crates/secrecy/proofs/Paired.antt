@@ -14,7 +14,7 @@ use Rattle.translation.proofs.Frame.{check-sound, frame-below}
 use Rattle.translation.proofs.Tests.{split}
 use Rattle.machine.specs.State.{Machine}
 use Rattle.machine.specs.DataPort.{dataWritten}
-use Rattle.machine.specs.Frames.{keyboardFrame}
+use Rattle.machine.specs.Devices.{keyboardFrame}
 use Rattle.machine.specs.Events.{Event, value, accept, step, answer}
 use Rattle.machine.specs.Run.{after, answers}
 use Rattle.machine.proofs.Laws.Events.{accept-data, accept-keyboard}
@@ -87,8 +87,8 @@ take-past es k h = take-all (suc k) es (omega arith) ∙ sym (take-all k es h)
 -- The theorem
 
 -- the lock of two locked machines opens in both or in neither
-opens-both : (s t x y : Bool) → s ≡ true → t ≡ true → (s && not x) ≡ (t && not y) → x ≡ y
-opens-both s t x y p q e = sym (Bool·not-not x) ∙ ap not (simp (p, q) at e) ∙ Bool·not-not y
+opensAt-both : (s t x y : Bool) → s ≡ true → t ≡ true → (s && not x) ≡ (t && not y) → x ≡ y
+opensAt-both s t x y p q e = sym (Bool·not-not x) ∙ ap not (simp (p, q) at e) ∙ Bool·not-not y
 
 module _ {m : Machine} {es fs : List Event} (paired : Paired m es fs) where
   -- k is a place of both lists, or past the last of both
@@ -107,7 +107,7 @@ module _ {m : Machine} {es fs : List Event} (paired : Paired m es fs) where
   alike-next k e f p q h a =
       subst₂ (StillAlike (before m es k) (before m fs k)) (sym (before-next m es k e p)) (sym (before-next m fs k f q))
       (step-allowed a (paired .differ k e f p q))
-      (λ locked. opens-both _ _ _ _ locked (ap (λ p. p .locked) (sym (a .plain)) ∙ locked) (paired .openings k h))
+      (λ locked. opensAt-both _ _ _ _ locked (ap (λ p. p .locked) (sym (a .plain)) ∙ locked) (paired .openings k h))
 
   -- before each place the machines are alike
   pub before-alike : (k : ℕ) → Alike (before m es k) (before m fs k)

@@ -39,11 +39,11 @@ pub data Allowed (m : Machine) (e f : Event) : Type 0 where
   trying : m .plain .locked ≡ true → Key e → Key f → Allowed m e f
 
 -- The lock opens at place k: locked before this list's own event there, and no longer locked after it.
-abbrev pub opens : Machine → List Event → ℕ → Bool
-opens m es k = before m es k .plain .locked && not (before m es (suc k) .plain .locked)
+abbrev pub opensAt : Machine → List Event → ℕ → Bool
+opensAt m es k = before m es k .plain .locked && not (before m es (suc k) .plain .locked)
 
--- Paired lists have one length, whatever it is. The first says what holds at a place; each says itself where its lock opens.
+-- Paired lists have the same length. What holds at a place is judged by the first list; where the lock opens is judged by each list itself.
 pub record Paired (m : Machine) (es fs : List Event) : Type 0 where
   pub lengths : length es ≡ length fs
   pub differ : (k : ℕ) (e f : Event) → At es k e → At fs k f → Allowed (before m es k) e f
-  pub openings : (k : ℕ) → k < length es → opens m es k ≡ opens m fs k
+  pub openings : (k : ℕ) → k < length es → opensAt m es k ≡ opensAt m fs k

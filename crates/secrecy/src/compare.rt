@@ -1,9 +1,9 @@
 // Two lists of events, each run by a controller of its own into a buffer of its own. Both are started with the same settings.
 use controller::run::run_fitting;
 use controller::run::run_fresh;
-use machine::settings::Settings;
-use machine::state::start;
-ghost use Rattle.machine.specs.View.{named};
+use state::settings::Settings;
+use state::state::start;
+ghost use Rattle.state.specs.View.{named};
 ghost use Rattle.secrecy.specs.Compared.{ListsCompared, FittingCompared};
 
 // The refusal numbers of the two calls.

@@ -23,23 +23,23 @@ abbrev pub high : ℕ → ℕ
 high b = cond (eqb b 0x83) 0x41 (cond (eqb b 0x84) 0x54 b)
 
 -- n numbers from i on
-abbrev pub from : ℕ → ℕ → List ℕ
-from i zero = []
-from i (suc n) = i ∷ from (suc i) n
+abbrev pub numbersFrom : ℕ → ℕ → List ℕ
+numbersFrom i zero = []
+numbersFrom i (suc n) = i ∷ numbersFrom (suc i) n
 
 -- The built-in table, an entry for each byte.
 unfoldable pub builtIn : List ℕ
-builtIn = rows ++ map high (from 0x80 0x80)
+builtIn = rows ++ map high (numbersFrom 0x80 0x80)
 
 -- how many of the numbers are v
-abbrev pub count : ℕ → List ℕ → ℕ
-count v [] = 0
-count v (x ∷ xs) = cond (eqb x v) (suc (count v xs)) (count v xs)
+abbrev pub occurrences : ℕ → List ℕ → ℕ
+occurrences v [] = 0
+occurrences v (x ∷ xs) = cond (eqb x v) (suc (occurrences v xs)) (occurrences v xs)
 
 -- each number of the first list stands once in the second
 abbrev pub eachOnce : List ℕ → List ℕ → Bool
 eachOnce [] xs = true
-eachOnce (v ∷ vs) xs = eqb (count v xs) 1 && eachOnce vs xs
+eachOnce (v ∷ vs) xs = eqb (occurrences v xs) 1 && eachOnce vs xs
 
 -- the entries 01h-7Fh of a table
 abbrev pub keys : List ℕ → List ℕ
@@ -47,7 +47,7 @@ keys table = take 0x7F (drop 1 table)
 
 -- The test that a table passes whose entries 01h-7Fh hold each of 01h-7Fh once.
 unfoldable pub permutes : List ℕ → Bool
-permutes table = eachOnce (from 1 0x7F) (keys table)
+permutes table = eachOnce (numbersFrom 1 0x7F) (keys table)
 
 -- What the test shows: each entry of 01h-7Fh is in 01h-7Fh, each value there has an index there, and no two indices share one.
 pub record Permutation (table : List ℕ) : Type 0 where

@@ -294,7 +294,7 @@ const BAD_KEYS: u8 = 14;
 
 const BAD_FIXED: u8 = 15;
 
-// What a start that names a table is told: 0 or the refusal, and the table in use from then on.
+// The result of choosing a table: 0 or the refusal, and the table in use from then on.
 pub struct Chosen {
     pub refusal: u8,
     pub table: Table,
@@ -317,7 +317,7 @@ pub fn built_in_entry(byte: u8) -> u8
 // How often each byte stands among the entries 01h-7Fh.
 fn tally(table: &[u8]) -> [u8; 256]
     requires { ⌜ 128 ≤ length (now table) ⌝ }
-    ensures { λ r. ⌜ ((v : ℕ) → v < 256 → getD r v 0 ≡ key.count v (key.keys (now (table .entry)))) ⌝ }
+    ensures { λ r. ⌜ ((v : ℕ) → v < 256 → getD r v 0 ≡ key.occurrences v (key.keys (now (table .entry)))) ⌝ }
 {
     let mut seen = [0u8; 256];
     let mut i = 1;
@@ -331,7 +331,7 @@ fn tally(table: &[u8]) -> [u8; 256]
 
 // Each of 01h-7Fh was counted once.
 fn all_once(seen: [u8; 256]) -> bool
-    ensures { λ r. ⌜ ((xs : List ℕ) → ((v : ℕ) → v < 256 → getD seen v 0 ≡ key.count v xs) → r ≡ key.eachOnce (key.from 1 0x7F) xs) ⌝ }
+    ensures { λ r. ⌜ ((xs : List ℕ) → ((v : ℕ) → v < 256 → getD seen v 0 ≡ key.occurrences v xs) → r ≡ key.eachOnce (key.numbersFrom 1 0x7F) xs) ⌝ }
 {
     let mut v = 1;
     while v < 0x80 {

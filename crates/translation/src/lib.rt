@@ -1,4 +1,5 @@
-// Frames and scan codes of the PS/2 wire: it knows nothing of a controller.
+// Frames and scan codes on the PS/2 wire. Nothing here depends on the controller.
+pub mod bits;
 pub mod frames;
 pub mod key_table;
 pub mod scan_codes;

@@ -19,7 +19,7 @@ pub struct Translated {
     pub breaks: bool,
 }
 
-// A byte of set 2, its entry in a key table, whichever it is, and the break flag as it was before: the code of set 1, and the flag after it.
+// From a byte of set 2, its entry in any key table and the break flag before it: the code of set 1 and the break flag after it.
 pub fn translate(entry: u8, byte: u8, breaks: bool) -> Translated
     ensures { λ r. ⌜ ((table : List ℕ) → entry ≡ getD table byte 0 → translation r ≡ translate table byte breaks) ⌝ }
 {

@@ -1,2 +1,2 @@
-// The second command set: what the commands do that only the VT82C42 has.
+// The second command set: the commands that only the VT82C42 has, and what they do.
 pub mod second_set;

@@ -1,24 +1,25 @@
 // The second command set, the VT82C42's: what its own commands do.
-use machine::lines::at_mode;
-use machine::lines::put;
-use machine::lines::within;
-use machine::state::HIGH_LATCHES;
-use machine::state::INPUT_LATCHES;
-use machine::state::LATCHES;
-use machine::state::OPTIONS;
-use machine::state::State;
-use machine::state::VERSION;
-use machine::state::sized;
-use machine::weights::nibble;
-use machine::weights::weight;
-ghost use mathlib.Core.Path.{_≡_};
+use state::bits::nibble;
+use state::bits::weight;
+use state::bits::within;
+use state::lines::at_mode;
+use state::lines::put;
+use state::lines::second_set;
+use state::state::HIGH_LATCHES;
+use state::state::INPUT_LATCHES;
+use state::state::LATCHES;
+use state::state::OPTIONS;
+use state::state::State;
+use state::state::VERSION;
+use state::state::sized;
+ghost use mathlib.Core.Bool.{cond};
 ghost use Prim.Native.Nat.{_%_};
 ghost use lib.Dec.{leb};
 ghost use Rattle.machine.specs.State.{lift};
+ghost use Rattle.machine.specs.Lines.{secondSet};
 ghost use Rattle.machine.specs.DataPort as port;
 ghost use Rattle.machine.specs.SecondSet as second;
-ghost use Rattle.machine.specs.Changed.{Changed};
-ghost use Rattle.vt82c42.specs.Promises.{SecondChange};
+ghost use Rattle.state.specs.Changed.{Changed, KeptChange};
 
 // The latches of P10-P15.
 fn latch_inputs(s: &mut State, n: u8)
@@ -111,8 +112,8 @@ fn put_version(s: &mut State)
 }
 
 // CAh: 1 in PS/2 mode, 0 in AT mode.
-fn put_mode(s: &mut State)
-    ensures { λ _. ⌜ Changed (lift second.modePut) (now (s .entry)) (now (s .exit)) ⌝ }
+fn report_mode(s: &mut State)
+    ensures { λ _. ⌜ Changed (lift second.modeReported) (now (s .entry)) (now (s .exit)) ⌝ }
 {
     let ps2 = weight(1, !at_mode(s));
     put(s, ps2);
@@ -127,14 +128,14 @@ fn single_command(s: &mut State, c: u8)
         0xAF => put_version(s),
         0xC8 => permit(s, true),
         0xC9 => permit(s, false),
-        0xCA => put_mode(s),
+        0xCA => report_mode(s),
         _ => {}
     }
 }
 
-// Any command but these does nothing.
-pub fn second_command(s: &mut State, c: u8)
-    ensures { λ _. ⌜ SecondChange c (now (s .entry)) (now (s .exit)) ⌝ }
+// Any other command does nothing.
+fn own_command(s: &mut State, c: u8)
+    ensures { λ _. ⌜ Changed (lift (second.secondCommand c)) (now (s .entry)) (now (s .exit)) ⌝ }
 {
     if within(0x90, 0x9F, c) {
         write_low_lines(s, c);
@@ -144,5 +145,14 @@ pub fn second_command(s: &mut State, c: u8)
         set_output_lines(s, c);
     } else {
         single_command(s, c);
+    }
+}
+
+// A command of the second set's own; with the first set nothing is done.
+pub fn second_command(s: &mut State, c: u8)
+    ensures { λ _. ⌜ KeptChange (lift (λ p. cond (secondSet p) (second.secondCommand c p) p)) (now (s .entry)) (now (s .exit)) ⌝ }
+{
+    if second_set(s) {
+        own_command(s, c);
     }
 }

@@ -77,8 +77,8 @@ fn tries() -> Case {
 }
 
 /// Fifteen equal bytes and another. The first key comes over and over, and each
-/// after the fifteenth is a slip that keeps the position.
-fn slips() -> Case {
+/// after the fifteenth is a mismatch that keeps the position.
+fn mismatches() -> Case {
     let mut code = [CODE; 16];
     code[15] = OTHER_CODE;
     locked_with(&code, &[KEY], 6_980)
@@ -112,7 +112,7 @@ pub fn by_name(name: &str) -> Option<Case> {
         "mix-700" => Some(mix(700)),
         "mix-7000" => Some(mix(7_000)),
         "tries" => Some(tries()),
-        "slips" => Some(slips()),
+        "mismatches" => Some(mismatches()),
         "refused" => Some(refused()),
         _ => None,
     }

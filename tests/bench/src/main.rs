@@ -9,9 +9,9 @@
 mod cases;
 mod measured;
 
+use calugnid::State;
 use cases::Case;
 use model::{Controller, Settings};
-use panel::State;
 use std::process::ExitCode;
 
 /// Events run in all, so that a list of one is repeated the most.
@@ -45,7 +45,7 @@ fn profile(case: &Case) {
 fn profile_events(case: &Case) {
     case.check();
     let (mut by_library, mut by_model) = ([0; 9], [0; 9]);
-    let mut state = State::fresh(panel::ORDINARY, 0);
+    let mut state = State::fresh(calugnid::ORDINARY, 0);
     let mut model = Controller::fresh(Settings::ORDINARY);
     for event in case.list.chunks_exact(3) {
         let (kind, value) = (event[0], u16::from_le_bytes([event[1], event[2]]));
@@ -62,7 +62,7 @@ fn profile_last(case: &Case) {
     let (before, last) = case.list.split_at(case.list.len() - 3);
     let (kind, value) = (last[0], u16::from_le_bytes([last[1], last[2]]));
     let (mut by_library, mut by_model) = ([0; 9], [0; 9]);
-    let mut state = State::fresh(panel::ORDINARY, 0);
+    let mut state = State::fresh(calugnid::ORDINARY, 0);
     let mut model = Controller::fresh(Settings::ORDINARY);
     for event in before.chunks_exact(3) {
         let value = u16::from_le_bytes([event[1], event[2]]);
@@ -81,7 +81,7 @@ fn profile_last(case: &Case) {
 /// Frames judged: those of every byte, or all numbers of eleven bits.
 fn profile_judging(frames: &[u16]) {
     for &frame in frames.iter().cycle().take(CALLS) {
-        let by_library = panel::judge(frame);
+        let by_library = calugnid::judge(frame);
         assert_eq!(by_library, measured::measured_model_judge(frame));
     }
     println!("{CALLS}");
@@ -90,7 +90,7 @@ fn profile_judging(frames: &[u16]) {
 /// Every byte framed.
 fn profile_framing() {
     for byte in (0..=u8::MAX).cycle().take(CALLS) {
-        let by_library = panel::frame(byte);
+        let by_library = calugnid::frame(byte);
         assert_eq!(by_library, measured::measured_model_frame(byte));
     }
     println!("{CALLS}");

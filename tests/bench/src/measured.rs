@@ -5,14 +5,14 @@
 //! framing in the library are looked for by their C names, so only the model
 //! has functions for them here.
 
+use calugnid::{Answer, State};
 use model::{Controller, Settings, Verdict};
-use panel::{Answer, State};
 use std::hint::black_box;
 
 #[inline(never)]
 #[unsafe(no_mangle)]
 pub fn measured_library(list: &[u8], answers: &mut [u8]) -> u8 {
-    black_box(panel::run(panel::ORDINARY, 0, list, answers))
+    black_box(calugnid::run(calugnid::ORDINARY, 0, list, answers))
 }
 
 #[inline(never)]
@@ -41,9 +41,9 @@ pub fn measured_model_event(state: &mut Controller, kind: u8, value: u16, answer
 pub fn measured_model_judge(frame: u16) -> u16 {
     match model::judge(frame) {
         Verdict::Sound(byte) => u16::from(byte),
-        Verdict::WrongParity => panel::WRONG_PARITY,
-        Verdict::Broken => panel::BROKEN,
-        Verdict::Noise => panel::NOISE,
+        Verdict::WrongParity => calugnid::WRONG_PARITY,
+        Verdict::Broken => calugnid::BROKEN,
+        Verdict::Noise => calugnid::NOISE,
     }
 }
 

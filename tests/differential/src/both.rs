@@ -6,8 +6,8 @@ use crate::fenced::Fenced;
 use crate::guarded::Guarded;
 use crate::random::Random;
 use crate::starts;
+use calugnid::Answer;
 use model::{ANSWER_SIZE, Controller, EVENT_SIZE, IMAGE_SIZE, STATE_SIZE, Settings, state_bytes};
-use panel::Answer;
 
 pub struct Both {
     pub model: Controller,

@@ -34,7 +34,7 @@ pub fn run_with_table(
     let (options, version) = (settings.options(), settings.version);
     let by_model = |answers: &mut [u8]| model::run_with_table(settings, table, list, answers);
     let by_library =
-        |answers: &mut [u8]| panel::run_with_table(options, version, table, list, answers);
+        |answers: &mut [u8]| calugnid::run_with_table(options, version, table, list, answers);
     run_by(random, list, room, by_model, by_library)
 }
 
@@ -63,7 +63,7 @@ fn run_by(
 /// What refuses the bytes of a table in both.
 pub fn table_refusal(table: &[u8]) -> u8 {
     let refusal = model::table_refusal(table);
-    assert_eq!(panel::table_refusal(table), refusal, "{table:02X?}");
+    assert_eq!(calugnid::table_refusal(table), refusal, "{table:02X?}");
     refusal
 }
 
@@ -94,7 +94,7 @@ pub fn run_image(random: &mut Random, image: &[u8], list: &[u8], room: Room) -> 
 
     let mut answer_buffer = Guarded::new(random, room.answers);
     let mut save_buffer = Guarded::new(random, room.saved);
-    let result = panel::run_image(image, list, answer_buffer.inside(), save_buffer.inside());
+    let result = calugnid::run_image(image, list, answer_buffer.inside(), save_buffer.inside());
     assert_eq!(result, refusal, "refusal of a run from {image:02X?}");
     answer_buffer.assert_begins(&answers, "answers of a run from an image");
     save_buffer.assert_begins(&saved, "saved image");
@@ -109,5 +109,5 @@ pub fn run_image(random: &mut Random, image: &[u8], list: &[u8], room: Room) -> 
 pub fn find(bytes: &[u8]) {
     let body = model::find(bytes);
     let offset = body.as_ptr() as usize - bytes.as_ptr() as usize;
-    assert_eq!(panel::find(bytes), offset, "body in {bytes:02X?}");
+    assert_eq!(calugnid::find(bytes), offset, "body in {bytes:02X?}");
 }

@@ -28,7 +28,7 @@ pub struct Coverage {
     /// Wrong keys within a code: those that kept nothing of it, and those that
     /// kept less than there was.
     pub wrong_tries: usize,
-    pub slips: usize,
+    pub mismatches: usize,
     pub resets_by_damage: usize,
     pub swallowed: usize,
     pub overridden: usize,
@@ -63,7 +63,7 @@ impl Coverage {
             opens: 0,
             opened_lengths: [0; PASSWORD_LIMIT + 1],
             wrong_tries: 0,
-            slips: 0,
+            mismatches: 0,
             resets_by_damage: 0,
             swallowed: 0,
             overridden: 0,
@@ -153,7 +153,7 @@ impl Coverage {
             "opened locks by length",
         );
         often(self.wrong_tries, 334, "wrong keys after right ones");
-        often(self.slips, 334, "wrong keys that keep a part");
+        often(self.mismatches, 334, "wrong keys that keep a part");
         often(self.resets_by_damage, 50, "damage after right keys");
         often(self.swallowed, 50, "keys swallowed while locked");
     }
@@ -206,7 +206,7 @@ impl Coverage {
     fn note_key_within(&mut self, before: &Controller, after: &Controller) {
         let (position, kept) = (before.position(), after.position());
         self.wrong_tries += usize::from(kept == 0);
-        self.slips += usize::from(kept > 0 && kept < position);
+        self.mismatches += usize::from(kept > 0 && kept < position);
     }
 }
 

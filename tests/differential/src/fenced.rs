@@ -1,7 +1,7 @@
 //! A state of the library with known bytes around it.
 
 use crate::random::Random;
-use panel::{STATE_SIZE, State};
+use calugnid::{STATE_SIZE, State};
 
 const MARGIN: usize = 64;
 

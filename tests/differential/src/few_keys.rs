@@ -22,7 +22,7 @@ pub fn draw_length(random: &mut Random) -> usize {
 }
 
 /// A code of the given bytes. Every other one begins with a shorter one that is
-/// repeated, so that much of it is kept at a slip.
+/// repeated, so that much of it is kept at a mismatch.
 pub fn draw_code(random: &mut Random, bytes: &[u8], length: usize) -> Vec<u8> {
     let period = if random.chance(50) {
         1 + random.below(length)

@@ -50,11 +50,11 @@ pub fn wrong_key(state: &Controller, random: &mut Random) -> u8 {
 
 /// One of the code's own keys that would not be right now, if there is one. Of
 /// all wrong keys only these may keep a part of the position.
-pub fn slip_key(state: &Controller, random: &mut Random) -> Option<u8> {
+pub fn mismatch_key(state: &Controller, random: &mut Random) -> Option<u8> {
     let next = next_byte(state);
-    let slip = |&byte: &u8| Some(byte) != next && counts(state, byte);
+    let mismatch = |&byte: &u8| Some(byte) != next && counts(state, byte);
     let code = state.password.bytes().iter().copied();
-    let others: Vec<u8> = code.filter(slip).collect();
+    let others: Vec<u8> = code.filter(mismatch).collect();
     if others.is_empty() {
         None
     } else {
@@ -67,14 +67,14 @@ pub fn slip_key(state: &Controller, random: &mut Random) -> Option<u8> {
 pub fn keeping_key(state: &Controller) -> Option<u8> {
     let code = state.password.bytes();
     let next = next_byte(state);
-    let slip = |&byte: &u8| Some(byte) != next && counts(state, byte);
+    let mismatch = |&byte: &u8| Some(byte) != next && counts(state, byte);
     let kept = |byte| {
         let mut counted = Counted::first_of(code, state.position());
         counted.count(byte);
         counted.position(code)
     };
-    let slips = code.iter().copied().filter(slip);
-    let (_, byte) = slips.map(|byte| (kept(byte), byte)).max()?;
+    let mismatches = code.iter().copied().filter(mismatch);
+    let (_, byte) = mismatches.map(|byte| (kept(byte), byte)).max()?;
     key_for(&state.settings.table, byte).filter(|_| kept(byte) > 0)
 }
 
@@ -136,18 +136,18 @@ mod tests {
     }
 
     #[test]
-    fn a_slip_is_wrong_and_a_foreign_key_keeps_nothing() {
+    fn a_mismatch_is_wrong_and_a_foreign_key_keeps_nothing() {
         let mut random = Random::new(8);
         let mut kept = [0; CODE.len()];
         for position in 0..CODE.len() {
             let state = few_keys::locked(ORDINARY, &CODE, position);
             for _ in 0..100 {
-                let slip = slip_key(&state, &mut random).expect("two other keys");
-                let after_slip = after(&state, slip);
-                assert!(after_slip.locked && after_slip.position() <= position);
-                kept[after_slip.position()] += 1;
+                let mismatch = mismatch_key(&state, &mut random).expect("two other keys");
+                let after_mismatch = after(&state, mismatch);
+                assert!(after_mismatch.locked && after_mismatch.position() <= position);
+                kept[after_mismatch.position()] += 1;
                 let most = keeping_key(&state).map_or(0, |key| after(&state, key).position());
-                assert!((after_slip.position()..=position).contains(&most));
+                assert!((after_mismatch.position()..=position).contains(&most));
                 let foreign = foreign_key(&state, &mut random);
                 assert_eq!(after(&state, foreign).position(), 0);
                 let wrong = wrong_key(&state, &mut random);
@@ -156,7 +156,7 @@ mod tests {
         }
         assert!(kept[0] > 0 && kept[1] > 0 && kept[2] > 0, "{kept:?}");
         let one_key = few_keys::locked(ORDINARY, &[0x1E; 4], 2);
-        assert_eq!(slip_key(&one_key, &mut random), None);
+        assert_eq!(mismatch_key(&one_key, &mut random), None);
         assert_eq!(keeping_key(&one_key), None);
     }
 }

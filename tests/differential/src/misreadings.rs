@@ -263,7 +263,7 @@ impl Misreadings {
 
     /// The position that this state would have if wrong keys threw all away is
     /// another.
-    pub fn owed_to_a_slip(&self, state: &Controller) -> bool {
+    pub fn owed_to_a_mismatch(&self, state: &Controller) -> bool {
         self.positions[0] != state.position()
     }
 
@@ -370,7 +370,7 @@ mod tests {
             ),
             (
                 &keys(&[0xF0, A]),
-                // Another 1Eh is a slip that keeps as much.
+                // Another 1Eh is a mismatch that keeps as much.
                 &["break codes start afresh"],
             ),
             (
@@ -427,7 +427,7 @@ mod tests {
     }
 
     #[test]
-    fn slips_tell_how_wrong_keys_are_read() {
+    fn mismatches_tell_how_wrong_keys_are_read() {
         let names = OF_WRONG_KEYS.map(|(name, _)| name);
         let code = |letters: &str| -> Vec<u8> {
             let byte = |letter| if letter == 'a' { 0x1E } else { 0x30 };

@@ -283,7 +283,7 @@ fn within_a_code(settings: Settings) -> Vec<Scene> {
         scene("within a code", mode::TRANSLATE, &[], within, &[]),
         scene("within a code, untranslated", 0, &[], within, &[]),
         scene(
-            "within a code, after a slip",
+            "within a code, after a mismatch",
             mode::TRANSLATE,
             &keys,
             within,

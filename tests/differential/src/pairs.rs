@@ -3,10 +3,10 @@
 use crate::event::{Event, kind};
 use crate::few_keys;
 use crate::keys;
-use crate::pair_slips::SeenSlips;
+use crate::mismatch_plan;
+use crate::pair_mismatches::SeenMismatches;
 use crate::premise::{is_code_byte, is_plain_key, opens};
 use crate::random::Random;
-use crate::slip_plan;
 use crate::typist::Typist;
 use crate::walker::Walker;
 use model::{Controller, Pending, Settings, Verdict, judge};
@@ -44,11 +44,11 @@ pub struct PairCoverage {
     /// Pairs in which one list kept a part at a wrong key where the other, at
     /// one too, lost all.
     pub kept_apart: usize,
-    /// Pairs in which the lock opened after different slips, without which
+    /// Pairs in which the lock opened after different mismatches, without which
     /// neither list would have opened it.
-    pub opened_by_slips: usize,
+    pub opened_by_mismatches: usize,
     /// Those of them that did so with different codes.
-    pub opened_by_slips_apart: usize,
+    pub opened_by_mismatches_apart: usize,
 }
 
 /// What has happened so far in the pair being built.
@@ -62,7 +62,7 @@ struct Seen {
     refused: bool,
     key_turned: bool,
     noise: SeenNoise,
-    slips: SeenSlips,
+    mismatches: SeenMismatches,
 }
 
 /// The same of noise, from either device.
@@ -114,9 +114,9 @@ pub fn build_from(
     builder.build(length, coverage)
 }
 
-/// The same with codes of few keys, so that both lists slip all the time. The
+/// The same with codes of few keys, so that both lists mismatch all the time. The
 /// keys of their codes are the same or others.
-pub fn build_with_slips(
+pub fn build_with_mismatches(
     state: &Controller,
     seed: u64,
     length: usize,
@@ -147,9 +147,9 @@ impl Seen {
         coverage.noise_within += usize::from(self.noise.within);
         coverage.noise_progressed_apart += usize::from(self.noise.progressed);
         coverage.opened_over_noise += usize::from(self.noise.opened);
-        coverage.kept_apart += usize::from(self.slips.kept_apart);
-        coverage.opened_by_slips += usize::from(self.slips.opened);
-        coverage.opened_by_slips_apart += usize::from(self.slips.opened_apart);
+        coverage.kept_apart += usize::from(self.mismatches.kept_apart);
+        coverage.opened_by_mismatches += usize::from(self.mismatches.opened);
+        coverage.opened_by_mismatches_apart += usize::from(self.mismatches.opened_apart);
     }
 }
 
@@ -163,7 +163,7 @@ impl Builder {
             first: state.clone(),
             second: state.clone(),
             seen: Seen {
-                slips: SeenSlips::from(state),
+                mismatches: SeenMismatches::from(state),
                 ..Seen::default()
             },
         }
@@ -228,7 +228,7 @@ impl Builder {
     /// ahead, foreign keys bring both back to the start.
     fn two_keys(&mut self, event: Event) -> (Event, Event) {
         if self.few.is_some() {
-            return self.two_slips(event);
+            return self.two_mismatches(event);
         }
         if self.first.position() != self.second.position() && self.random.chance(50) {
             let one = keys::foreign_key(&self.first, &mut self.random);
@@ -246,12 +246,12 @@ impl Builder {
         }
     }
 
-    /// Two keys of which either may slip: keys that open together after slips,
+    /// Two keys of which either may mismatch: keys that open together after mismatches,
     /// or such as bring the lists level.
-    fn two_slips(&mut self, event: Event) -> (Event, Event) {
+    fn two_mismatches(&mut self, event: Event) -> (Event, Event) {
         if self.planned.is_empty() && self.random.chance(20) {
             let locks = [&self.first, &self.second];
-            let keys = slip_plan::draw(&mut self.random, locks);
+            let keys = mismatch_plan::draw(&mut self.random, locks);
             self.planned = keys.unwrap_or_default().into();
         }
         if let Some((one, other)) = self.planned.pop_front() {
@@ -264,7 +264,7 @@ impl Builder {
         self.level_keys()
     }
 
-    /// The list that is ahead slips while the other has the right key.
+    /// The list that is ahead mismatches while the other has the right key.
     fn level_keys(&mut self) -> (Event, Event) {
         let lists = [&self.first, &self.second];
         let [one, other] = lists.map(|list| wrong_of_few(list, &mut self.random));
@@ -306,10 +306,12 @@ impl Builder {
         if codes_differ {
             self.note_noise(one.is_noise() && !refused, opened);
         }
-        // Other codes have too few slips to be looked for.
+        // Other codes have too few mismatches to be looked for.
         if self.few.is_some() {
             let before = [&self.first, &self.second];
-            self.seen.slips.note(before, [one, other], [first, second]);
+            self.seen
+                .mismatches
+                .note(before, [one, other], [first, second]);
         }
     }
 
@@ -334,6 +336,6 @@ impl Builder {
 /// Mostly a key that keeps as much as it can.
 fn wrong_of_few(state: &Controller, random: &mut Random) -> u8 {
     let keeping = keys::keeping_key(state).filter(|_| random.chance(75));
-    let slip = keeping.or_else(|| keys::slip_key(state, random));
-    slip.unwrap_or_else(|| keys::foreign_key(state, random))
+    let mismatch = keeping.or_else(|| keys::mismatch_key(state, random));
+    mismatch.unwrap_or_else(|| keys::foreign_key(state, random))
 }

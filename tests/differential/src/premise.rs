@@ -135,31 +135,31 @@ mod tests {
     }
 
     /// The places of opening are those at which the last keys are the code,
-    /// whatever slips come before.
+    /// whatever mismatches come before.
     #[test]
-    fn slips_move_no_opening() {
+    fn mismatches_move_no_opening() {
         let pair = |one: &[u8], other: &[u8]| comparable(ORDINARY, one, other);
         let [a, b, other] = [0x1C, 0x32, 0x21];
         let code = [0x1E, 0x1E, 0x30];
-        let slipped = typed_at(&code, &[a, a, a, b]);
+        let mismatched = typed_at(&code, &[a, a, a, b]);
         // Opened at the fourth key too, after another wrong key.
-        assert!(pair(&slipped, &typed_at(&code, &[other, a, a, b])));
+        assert!(pair(&mismatched, &typed_at(&code, &[other, a, a, b])));
         let palindrome = [0x1E, 0x30, 0x1E];
-        assert!(pair(&slipped, &typed_at(&palindrome, &[a, a, b, a])));
+        assert!(pair(&mismatched, &typed_at(&palindrome, &[a, a, b, a])));
         // Shut to the end, as a lock would be that throws a start away.
         for keys in [[a, a, a, a], [a, a, other, b], [b, b, b, b]] {
-            assert!(!pair(&slipped, &typed_at(&code, &keys)));
-            assert!(!pair(&typed_at(&code, &keys), &slipped));
+            assert!(!pair(&mismatched, &typed_at(&code, &keys)));
+            assert!(!pair(&typed_at(&code, &keys), &mismatched));
         }
         // Opened one key earlier.
-        assert!(!pair(&slipped, &typed_at(&code, &[a, a, b, b])));
+        assert!(!pair(&mismatched, &typed_at(&code, &[a, a, b, b])));
         let shut = typed_at(&code, &[a, a, a, a]);
         assert!(pair(&shut, &typed_at(&palindrome, &[a, b, b, a])));
         assert!(!pair(&shut, &typed_at(&palindrome, &[a, a, b, a])));
     }
 
     /// From a lock that is shut within its code, under all settings.
-    fn slips_move_no_opening_from_a_locked_state(settings: Settings) {
+    fn mismatches_move_no_opening_from_a_locked_state(settings: Settings) {
         let [a, b, other] = [0x1E, 0x30, 0x2E].map(|code| keys::giving(settings, code));
         let list = |keys: &[u8]| -> Vec<u8> {
             let keys = keys.iter().map(|&key| Event::key(key));
@@ -256,7 +256,7 @@ mod tests {
         secrets_may_differ_where_the_lock_opens_alike,
         nothing_else_may_differ,
         keys_may_differ_from_a_locked_state,
-        slips_move_no_opening_from_a_locked_state,
+        mismatches_move_no_opening_from_a_locked_state,
         noise_may_not_differ_while_locked,
         noise_must_be_the_same_in_both_lists,
     );

@@ -14,7 +14,7 @@ pub fn rest(bytes: [u8; 5], table: KeyTable) -> Vec<u8> {
 
 /// The same in a fresh controller with ordinary settings.
 pub fn ordinary_rest() -> Vec<u8> {
-    rest([panel::ORDINARY, 0x3F, 0x03, 0, 0], KeyTable::BUILT_IN)
+    rest([calugnid::ORDINARY, 0x3F, 0x03, 0, 0], KeyTable::BUILT_IN)
 }
 
 /// A controller that loads what it saved goes on as a run of the image does.

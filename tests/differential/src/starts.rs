@@ -1,8 +1,8 @@
 //! Starts and runs from fresh in the library, with the model's settings. A table
 //! that is not the built-in one is for the calls that take one.
 
+use calugnid::{STATE_SIZE, State};
 use model::{KeyTable, Settings};
-use panel::{STATE_SIZE, State};
 
 /// Makes a fresh controller of whatever was there.
 pub fn start(state: &mut State, settings: Settings) {
@@ -26,8 +26,8 @@ pub fn fresh(settings: Settings) -> State {
 pub fn run(settings: Settings, list: &[u8], answers: &mut [u8]) -> u8 {
     let (options, version) = (settings.options(), settings.version);
     if settings.table == KeyTable::BUILT_IN {
-        panel::run(options, version, list, answers)
+        calugnid::run(options, version, list, answers)
     } else {
-        panel::run_with_table(options, version, &settings.table.0, list, answers)
+        calugnid::run_with_table(options, version, &settings.table.0, list, answers)
     }
 }

@@ -1,4 +1,4 @@
-//! Types at locks whose codes have two or three different keys, so that slips
+//! Types at locks whose codes have two or three different keys, so that mismatches
 //! come all the time, and puts everything in between that the lock must not
 //! mind. An open lock is soon shut again.
 
@@ -6,8 +6,8 @@ use crate::event::{Event, kind};
 use crate::few_keys;
 use crate::keys;
 use crate::lists;
+use crate::mismatch_coverage::MismatchCoverage;
 use crate::random::Random;
-use crate::slip_coverage::SlipCoverage;
 use crate::under_settings::locks;
 use crate::unguided;
 use model::{Controller, Pending, cell, mode};
@@ -132,9 +132,9 @@ impl Typist {
         if let Some(right) = right.filter(|_| self.random.chance(self.care)) {
             return right;
         }
-        let slip = keys::slip_key(state, &mut self.random);
+        let mismatch = keys::mismatch_key(state, &mut self.random);
         match self.random.below(8) {
-            0..=4 => slip.or(right),
+            0..=4 => mismatch.or(right),
             5 => right,
             6 => Some(keys::foreign_key(state, &mut self.random)),
             _ => None,
@@ -196,7 +196,7 @@ pub fn list_from(
     state: &mut Controller,
     seed: u64,
     length: usize,
-    coverage: &mut SlipCoverage,
+    coverage: &mut MismatchCoverage,
 ) -> Vec<u8> {
     let mut typist = Typist::new(seed);
     let mut list = Vec::new();

@@ -125,9 +125,9 @@ impl Walker {
 
     /// Mostly one of the code's own keys, of which a part may be kept.
     fn wrong_key(&mut self, state: &Controller) -> u8 {
-        let slip = keys::slip_key(state, &mut self.random);
-        let slip = slip.filter(|_| self.random.chance(70));
-        slip.unwrap_or_else(|| keys::wrong_key(state, &mut self.random))
+        let mismatch = keys::mismatch_key(state, &mut self.random);
+        let mismatch = mismatch.filter(|_| self.random.chance(70));
+        mismatch.unwrap_or_else(|| keys::wrong_key(state, &mut self.random))
     }
 
     /// A key whose code stands in one of the cells that a try ignores.

@@ -1,6 +1,7 @@
 //! The bytes of a state that no call made. What the answers are is open there,
 //! but every call ends, stays inside what it is lent, and fits with the others.
 
+use calugnid::{Answer, STATE_SIZE};
 use differential::event::Event;
 use differential::fenced::Fenced;
 use differential::guarded::Guarded;
@@ -11,7 +12,6 @@ use differential::refusals::Refusals;
 use differential::rounds::rounds;
 use differential::unguided;
 use model::{ANSWER_SIZE, IMAGE_SIZE, TABLE_PLACE};
-use panel::{Answer, STATE_SIZE};
 
 const STATES: usize = 100_000;
 

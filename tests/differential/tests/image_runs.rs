@@ -14,7 +14,10 @@ const DRAWN_IMAGES: usize = 6_000;
 
 fn fresh_image() -> [u8; IMAGE_SIZE] {
     let mut image = [0; IMAGE_SIZE];
-    assert_eq!(panel::State::fresh(panel::ORDINARY, 0).save(&mut image), 0);
+    assert_eq!(
+        calugnid::State::fresh(calugnid::ORDINARY, 0).save(&mut image),
+        0
+    );
     assert_eq!(image, save(&Controller::fresh(Settings::ORDINARY)));
     image
 }

@@ -1,5 +1,6 @@
 //! Noise frames leave everything as it is, in states made for it and anywhere.
 
+use calugnid::State;
 use differential::both::Both;
 use differential::compare::{self, Room};
 use differential::coverage::Coverage;
@@ -16,7 +17,6 @@ use differential::starts;
 use differential::under_settings::seed;
 use differential::unguided;
 use model::{ANSWER_SIZE, Controller, EVENT_SIZE, IMAGE_SIZE, Settings, save};
-use panel::State;
 
 const KINDS: [u8; 2] = [kind::KEYBOARD_FRAME, kind::MOUSE_FRAME];
 const QUIET_EVENTS: usize = 500_000;

@@ -35,7 +35,7 @@ fn changed(random: &mut Random, settings: Settings) -> Both {
 
 fn changed_rest(settings: Settings) -> Vec<u8> {
     let allowed = 0x08;
-    let options = settings.options() | panel::SECOND_SET | allowed;
+    let options = settings.options() | calugnid::SECOND_SET | allowed;
     let bytes = [options, 0x16, 0x02, 0, settings.version];
     rest(bytes, settings.table)
 }

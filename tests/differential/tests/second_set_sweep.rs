@@ -1,6 +1,7 @@
 //! Every command byte in each mode with each set, over every pending code; every
 //! pattern of P1's latches with every pattern of its pins.
 
+use calugnid::{Answer, STATE_SIZE};
 use differential::both::Both;
 use differential::event::{Event, kind};
 use differential::random::Random;
@@ -11,7 +12,6 @@ use differential::under_settings::{
     AT_MODE, MODES_AND_SETS, ORDINARY, SECOND_SET, SECOND_SET_IN_AT_MODE, seed,
 };
 use model::{Controller, Pending, Settings, mode};
-use panel::{Answer, STATE_SIZE};
 use std::collections::BTreeSet;
 
 /// Bits of either value for each latch of P2 and for the command byte.

@@ -1,5 +1,6 @@
 //! Lists that differ in secrets only are answered alike.
 
+use calugnid::State;
 use differential::event::Event;
 use differential::few_keys;
 use differential::images;
@@ -12,7 +13,6 @@ use differential::rounds::rounds;
 use differential::starts;
 use differential::under_settings::{MOUSE_LOCK, ORDINARY, locks, seed};
 use model::{Controller, EVENT_SIZE, Settings, mode, state_bytes};
-use panel::State;
 
 const PAIRS: usize = 4_000;
 /// In AT mode and with the second set no code can be loaded from fresh, so the
@@ -174,23 +174,23 @@ fn assert_alike_from(random: &mut Random, state: &Controller, pair: &Pair, what:
     assert_eq!(assert_alike_by(run, random, pair, room), 0);
 }
 
-/// Pairs whose codes have few keys and differ, so that both lists slip, each in
+/// Pairs whose codes have few keys and differ, so that both lists mismatch, each in
 /// its own way. Under no other settings can a code be loaded from fresh.
 #[test]
-fn pairs_with_slips_are_answered_alike() {
+fn pairs_with_mismatches_are_answered_alike() {
     for settings in [ORDINARY, MOUSE_LOCK] {
-        assert_slips_alike(settings);
+        assert_mismatches_alike(settings);
     }
 }
 
-fn assert_slips_alike(settings: Settings) {
+fn assert_mismatches_alike(settings: Settings) {
     let mut random = Random::new(seed(settings, 54));
     let mut coverage = PairCoverage::default();
     let fresh = Controller::fresh(settings);
     for number in 0..(PAIRS_WITH_SLIPS * rounds()) as u64 {
         let length = random.pick(&[100, 300, 300, 600]);
         let seed = seed(settings, 1_400_000 + number);
-        let pair = pairs::build_with_slips(&fresh, seed, length, &mut coverage);
+        let pair = pairs::build_with_mismatches(&fresh, seed, length, &mut coverage);
         assert!(comparable(settings, &pair.first, &pair.second), "{number}");
         let room = pair.first.len() * 3 + random.below(20);
         assert_eq!(assert_alike(&mut random, settings, &pair, room), 0);
@@ -202,7 +202,11 @@ fn assert_slips_alike(settings: Settings) {
             (coverage.progressed_apart, 50, "right in one list only"),
             (coverage.opened_apart, 50, "opened with different codes"),
             (coverage.kept_apart, 60, "a part kept in one list only"),
-            (coverage.opened_by_slips_apart, 40, "opened by slips"),
+            (
+                coverage.opened_by_mismatches_apart,
+                40,
+                "opened by mismatches",
+            ),
             (coverage.opened_over_noise, 30, "opened with noise between"),
         ],
     );
@@ -210,13 +214,13 @@ fn assert_slips_alike(settings: Settings) {
 
 /// The same from a state that is locked at the start, under all settings. There
 /// is one code, and both lists begin at the same position of it.
-fn pairs_with_slips_from_locked_states_are_answered_alike(settings: Settings) {
+fn pairs_with_mismatches_from_locked_states_are_answered_alike(settings: Settings) {
     let mut random = Random::new(seed(settings, 55));
     let mut coverage = PairCoverage::default();
     for number in 0..(PAIRS_WITH_SLIPS * rounds()) as u64 {
         let state = few_keys::draw_locked(&mut random, settings);
         let seed = seed(settings, 1_500_000 + number);
-        let pair = pairs::build_with_slips(&state, seed, 80, &mut coverage);
+        let pair = pairs::build_with_mismatches(&state, seed, 80, &mut coverage);
         assert_alike_from(&mut random, &state, &pair, &format!("pair {number}"));
     }
     assert_shares(
@@ -225,7 +229,11 @@ fn pairs_with_slips_from_locked_states_are_answered_alike(settings: Settings) {
             (coverage.progressed_apart, 40, "right in one list only"),
             (coverage.kept_apart, 10, "a part kept in one list only"),
             (coverage.opened, 60, "opened"),
-            (coverage.opened_by_slips, 8, "opened by different slips"),
+            (
+                coverage.opened_by_mismatches,
+                8,
+                "opened by different mismatches",
+            ),
         ],
     );
 }
@@ -237,9 +245,9 @@ fn keys_and_a_write(keys: &[u8]) -> Vec<u8> {
     events.flat_map(Event::to_bytes).collect()
 }
 
-/// Where one list opens by a slip and the other does not, nothing is asked, and
+/// Where one list opens by a mismatch and the other does not, nothing is asked, and
 /// the answers do differ.
-fn a_slip_that_opens_one_list_only_is_told(settings: Settings) {
+fn a_mismatch_that_opens_one_list_only_is_told(settings: Settings) {
     let [a, b, other] = [0x1E, 0x30, 0x2E].map(|code| keys::giving(settings, code));
     for (code, opening, shut) in [
         (&[0x1E, 0x1E, 0x30][..], [a, a, a, b], [a, a, a, other]),
@@ -297,8 +305,8 @@ fn model_answers_pairs_alike(settings: Settings) {
 differential::under_every_setting!(
     pairs_are_answered_alike,
     pairs_from_locked_states_are_answered_alike,
-    pairs_with_slips_from_locked_states_are_answered_alike,
-    a_slip_that_opens_one_list_only_is_told,
+    pairs_with_mismatches_from_locked_states_are_answered_alike,
+    a_mismatch_that_opens_one_list_only_is_told,
     refused_pairs_are_refused_alike,
     model_answers_pairs_alike,
 );

@@ -53,7 +53,7 @@ fn only_three_bits_of_the_options_change_a_run() {
     for options in 0..=0xFF {
         for version in 0..=0xFF {
             let mut answers = Guarded::new(&mut random, 72);
-            assert_eq!(panel::run(options, version, &LIST, answers.inside()), 0);
+            assert_eq!(calugnid::run(options, version, &LIST, answers.inside()), 0);
             let mut expected = [0; 72];
             let settings = Settings::from_options(options, version);
             model::run(settings, &LIST, &mut expected);
@@ -90,11 +90,11 @@ fn timed_out(random: &mut Random, settings: Settings) -> Both {
 
 fn rest_in_at_mode(settings: Settings) -> Vec<u8> {
     let lock = if settings.mouse_lock {
-        panel::MOUSE_LOCK
+        calugnid::MOUSE_LOCK
     } else {
-        panel::ORDINARY
+        calugnid::ORDINARY
     };
-    let bytes = [panel::AT_MODE | lock, 0x3F, 0x08, 0x01, settings.version];
+    let bytes = [calugnid::AT_MODE | lock, 0x3F, 0x08, 0x01, settings.version];
     rest(bytes, settings.table)
 }
 
@@ -174,7 +174,7 @@ fn a_save_leaves_the_mouse_lock_out_and_a_load_ends_it() {
     let saved = both.save(&mut random, IMAGE_SIZE);
     assert!(!puts_mouse_byte(&mut both, &mut random));
     assert_eq!(both.load(&saved), 0);
-    assert_eq!(both.bytes()[60], panel::ORDINARY);
+    assert_eq!(both.bytes()[60], calugnid::ORDINARY);
     assert!(puts_mouse_byte(&mut both, &mut random));
 }
 
@@ -197,10 +197,10 @@ fn a_refused_load_keeps_the_mouse_lock() {
     for image in refused_images(&mut random) {
         let mut both = turned(&mut random);
         assert_ne!(both.load(&image), 0);
-        assert_eq!(both.bytes()[60], panel::MOUSE_LOCK);
+        assert_eq!(both.bytes()[60], calugnid::MOUSE_LOCK);
         assert!(!puts_mouse_byte(&mut both, &mut random));
         assert_ne!(both.load(&image[1..]), 0);
-        assert_eq!(both.bytes()[60], panel::MOUSE_LOCK);
+        assert_eq!(both.bytes()[60], calugnid::MOUSE_LOCK);
     }
 }
 

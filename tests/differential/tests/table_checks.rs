@@ -284,7 +284,7 @@ fn assert_run_takes_options(random: &mut Random, options: u8, version: u8, table
     let list = events.map(Event::to_bytes);
     let mut answers = random.bytes(36);
     let list = list.as_flattened();
-    let refusal = panel::run_with_table(options, version, table, list, &mut answers);
+    let refusal = calugnid::run_with_table(options, version, table, list, &mut answers);
     assert_eq!(refusal, 0);
     let refused = if options & 2 == 0 { 0 } else { 12 };
     let put = match options & 6 {

@@ -4,10 +4,10 @@ use mathlib.Core.Path.{_≡_, refl, ap, _∙_}
 use mathlib.Core.List.{List, [], _∷_, _++_}
 use lib.ListN.{length, drop, set}
 use Rattle.machine.specs.Events.{Event, lines}
-use Rattle.machine.specs.View.{public}
-use Rattle.machine.specs.Told.{EventTold}
-use Rattle.machine.specs.declared.events.Told.{Told}
-use Rattle.machine.proofs.Laws.Lists.{front}
+use Rattle.state.specs.View.{public}
+use Rattle.state.specs.Told.{EventTold}
+use Rattle.state.specs.declared.told.Told.{Told}
+use Rattle.translation.proofs.Lists.{front}
 use Rattle.controller.specs.Steps.{EventWritten}
 
 -- nine stores at the front of a buffer

@@ -14,12 +14,12 @@ use Rattle.machine.specs.State.{Machine, fresh}
 use Rattle.machine.specs.Events.{Event, event, refusal, step, answer, standing}
 use Rattle.machine.specs.Run.{events, first, after, answers, filled, fitting, listRefusal}
 use Rattle.machine.specs.Kept.{Kept}
-use Rattle.machine.specs.View.{view, public, stateOf}
-use Rattle.machine.specs.Changed.{Changed}
+use Rattle.state.specs.View.{view, public, stateOf}
+use Rattle.state.specs.Changed.{Changed}
 use Rattle.machine.proofs.Laws.Events.{reply-refused, refusal-kind}
 use Rattle.machine.proofs.Laws.Kept.{keeps}
-use Rattle.machine.proofs.Laws.Changed.{chain, by-rule, untouched}
-use Rattle.machine.proofs.Laws.Lists.{take-rest, handed, handed-back}
+use Rattle.state.proofs.Laws.Changed.{chain, by-rule, untouched}
+use Rattle.translation.proofs.Lists.{take-rest, handed, handed-back}
 use Rattle.machine.proofs.Laws.Run.{length-answer, after-kept, fitting-short, fitting-tight, fitting-more, fitting-all, filled-none, filled-more}
 use Rattle.controller.specs.Promises.{EventAnswered, FittingRun, ListRun, FreshRun}
 use Rattle.controller.specs.Steps.{EventWritten, EventsRun}

@@ -1,49 +1,16 @@
 -- Laws of the definitions in specs/Load. Assumes nothing.
-use mathlib.Core.Path.{_≡_, refl, ap, sym, _∙_}
+use mathlib.Core.Path.{_≡_, refl, sym, _∙_}
 use mathlib.Core.Bool.{true, false}
 use mathlib.Core.List.{List}
-use Prim.Native.Nat.{ℕ, _-_, _≤_}
-use native.Mathlib.Omega.{arith}
-use lib.ListN.{length}
+use Prim.Native.Nat.{ℕ}
 use borrow.Author.Tests.{eq-eqb, ne-eqb, eqb-false}
-use Rattle.machine.specs.State.{Machine}
-use Rattle.image.specs.Layout.{bodyLength, imageLength}
-use Rattle.image.specs.Find.{ends, found, bodyStart}
-use Rattle.image.specs.Rules.{bodyKept}
-use Rattle.image.specs.Load.{loadRefusal, resumed, loaded}
 use Rattle.translation.proofs.Tests.{split}
-use Rattle.image.proofs.Laws.Tests.{cond-true, cond-false}
-use Rattle.image.proofs.Laws.Find.{ends-sealed, found-none, found-body, length-bodyOf}
-
--- ---- found
-pub length-found : (bytes : List ℕ) → ends 1 bodyLength bytes ≡ true → length (found bytes) ≡ bodyLength
-length-found bytes e = ap length (found-body bytes e) ∙ length-bodyOf bodyLength bytes (ends-sealed 1 bodyLength bytes e .room)
-
--- the bytes that were found, b: there are some exactly where check 10 is passed
-module _ (bytes : List ℕ) {b : List ℕ} (here : b ≡ found bytes) where
-  pub none-ends : length b ≡ 0 → ends 1 bodyLength bytes ≡ false
-  none-ends none =
-      split (ends 1 bodyLength bytes)
-      (λ e. absurd (omega (arith, none, ap length here, length-found bytes e)))
-      (λ e. e)
-
-  pub bodyStart-none : length b ≡ 0 → bodyStart bytes ≡ length bytes
-  unfolding bodyStart
-  bodyStart-none none = cond-false _ _ _ (none-ends none)
-
-  module _ (some : length b ≡ 0 → ⊥) where
-    pub some-ends : ends 1 bodyLength bytes ≡ true
-    some-ends = split (ends 1 bodyLength bytes) (λ e. e) (λ e. absurd (some (ap length (here ∙ found-none bytes e))))
-
-    pub some-long : length b ≡ bodyLength
-    some-long = ap length here ∙ length-found bytes some-ends
-
-    pub some-room : imageLength ≤ length bytes
-    some-room = ends-sealed 1 bodyLength bytes some-ends .room
-
-    pub bodyStart-some : bodyStart bytes ≡ length bytes - imageLength
-    unfolding bodyStart
-    bodyStart-some = cond-true _ _ _ some-ends
+use Rattle.machine.specs.State.{Machine}
+use Rattle.image_bytes.specs.Layout.{bodyLength}
+use Rattle.image_bytes.specs.Find.{ends, found}
+use Rattle.image_bytes.specs.Rules.{bodyKept}
+use Rattle.image_bytes.proofs.Laws.Tests.{cond-true, cond-false}
+use Rattle.image.specs.Load.{loadRefusal, resumed, loaded}
 
 -- ---- loadRefusal, loaded
 module _ (m : Machine) (bytes : List ℕ) where

@@ -9,33 +9,35 @@ use lib.ListN.{length, getD, take, drop, length-take, length-drop}
 use lib.Seq.{take-append-seam, drop-append-seam, getD-drop}
 use lib.Dec.{eqb}
 use borrow.Author.Tests.{ne-eqb, eqb-true, eqb-false, not-true}
-use Rattle.translation.specs.Bits.{has}
-use Rattle.machine.specs.Settings.{Settings, ordinary}
-use Rattle.machine.specs.State.{Public, Machine, fresh}
-use Rattle.machine.specs.Lines.{atMode, secondSet, nibble}
-use Rattle.machine.specs.Kept.{Kept}
-use Rattle.machine.specs.View.{stateLength, body, beyond, stateOf, at, view, IsState}
-use Rattle.machine.proofs.Laws.Lists.{Below, below-take, below-drop, below-append, length-part}
-use Rattle.machine.proofs.Laws.Bits.{flags-full, flags-mouse, flags-locked, flags-below, latches-below, overlay-below, eqb-nibble}
+use Rattle.translation.specs.Bits.{has, nibble}
+use Rattle.translation.proofs.Lists.{Below, below-take, below-drop, below-append, length-part}
 use Rattle.translation.specs.KeyTable.{builtIn, tableRefusal}
 use Rattle.translation.proofs.KeyTable.{builtIn-passes, accepted-length}
-use Rattle.machine.proofs.Laws.Code.{code-long, code-byte}
-use Rattle.machine.proofs.Laws.View.{ram-of}
+use Rattle.machine.specs.Settings.{Settings, ordinary}
+use Rattle.machine.specs.State.{Public, Machine, fresh}
+use Rattle.machine.specs.Lines.{atMode, secondSet}
+use Rattle.machine.specs.Kept.{Kept}
+use Rattle.state.specs.View.{stateLength, body, beyond, stateOf, at, view, IsState}
+use Rattle.state.proofs.Laws.Flags.{flags-full, flags-mouse, flags-locked, flags-below}
+use Rattle.machine.proofs.Laws.Bits.{latches-below, overlay-below, eqb-nibble}
+use Rattle.state.proofs.Laws.Code.{code-long, code-byte}
+use Rattle.state.proofs.Laws.View.{ram-of}
 use Rattle.machine.proofs.Laws.Settings.{fresh-settings}
 use Rattle.machine.proofs.Laws.Cond.{not-both}
 use Rattle.machine.proofs.Laws.Kept.{ordinary-kept}
-use Rattle.machine.proofs.Laws.Body.{beyond-same, beyond-below, tidied, length-extended, take-extended, table-extended, byte-extended, tidied-extended}
-use Rattle.machine.proofs.Laws.Body.{length-body, code-part, ram-part, view-state, Tidy, tidy-state, body-front}
-use Rattle.image.specs.Layout.{bodyLength, imageLength, sealed, image}
-use Rattle.image.specs.Find.{lastBytes, ends, found}
-use Rattle.image.specs.Rules.{every, isZero, nonzero, bodyKept}
+use Rattle.state.proofs.Laws.Body.{beyond-same, beyond-below, tidied, length-extended, take-extended, table-extended, byte-extended, tidied-extended}
+use Rattle.state.proofs.Laws.Body.{length-body, code-part, ram-part, view-state, Tidy, tidy-state, body-front}
+use Rattle.image_bytes.specs.Layout.{bodyLength, imageLength, sealed}
+use Rattle.image_bytes.specs.Find.{lastBytes, ends, found}
+use Rattle.image_bytes.specs.Rules.{every, isZero, nonzero, bodyKept}
+use Rattle.image_bytes.proofs.Laws.Layout.{length-sealed}
+use Rattle.image_bytes.proofs.Laws.Rules.{Rules, every-at, every-all, every-zeros, bodyKept-rules, rules-bodyKept, bodyKept-front}
+use Rattle.image_bytes.proofs.Laws.Find.{ends-sealed, sealed-ends, found-body, length-found}
+use Rattle.image_bytes.proofs.Laws.Trailer.{lastBytes-append, bodyOf-sealed, sealed-trailer, lastBytes-sealed}
+use Rattle.image.specs.Image.{image}
 use Rattle.image.specs.Load.{loadRefusal, stateFrom, resumed}
 use Rattle.image.specs.Restored.{Restored}
-use Rattle.image.proofs.Laws.Layout.{length-sealed}
-use Rattle.image.proofs.Laws.Rules.{Rules, every-at, every-all, every-zeros, bodyKept-rules, rules-bodyKept, bodyKept-front}
-use Rattle.image.proofs.Laws.Find.{ends-sealed, sealed-ends, found-body}
-use Rattle.image.proofs.Laws.Trailer.{lastBytes-append, bodyOf-sealed, sealed-trailer, lastBytes-sealed}
-use Rattle.image.proofs.Laws.Load.{length-found, loaded-accepted, loadRefusal-kept, accepted}
+use Rattle.image.proofs.Laws.Load.{loaded-accepted, loadRefusal-kept, accepted}
 
 -- ---- the machine of a state that keeps the rules
 module _ (s : List ℕ) (long : length s ≡ stateLength) (r : Rules s) (beyond : (k : ℕ) → tidied k (at s (60 + k)) ≡ at s (60 + k)) where
@@ -94,7 +96,7 @@ module _ (s : List ℕ) (long : length s ≡ stateLength) (r : Rules s) (beyond 
         unlocked = r .unlocked;
         ram = ap suc (length-part 29 31 s (omega arith));
         cells = subst (Below 256) (sym (ram-of s long)) (below-take 256 32 (drop 28 s) (omega arith) (below-drop 256 28 s bytes));
-        modeByte = r .modeByte;
+        modeByte = r .mode;
         version = bytes 64;
         table = passes;
         entries = below-drop 256 65 s bytes;
@@ -135,7 +137,7 @@ module _ (m : Machine) (k : Kept m) where
             ∙ every-zeros (16 - length c);
         locked = λ e. k .locked (sym (flags-locked p) ∙ e);
         unlocked = λ e. k .unlocked (sym (flags-locked p) ∙ e);
-        modeByte = omega (arith, ap (λ (l : List ℕ). getD l 0 0) (ram-part m (k .code) (k .ram)), k .modeByte);
+        mode = omega (arith, ap (λ (l : List ℕ). getD l 0 0) (ram-part m (k .code) (k .ram)), k .modeByte);
       }
     where
       nonzeros : every nonzero (m .secret .code) ≡ true

@@ -10,17 +10,18 @@ use Rattle.machine.specs.State.{Machine}
 use Rattle.machine.specs.Events.{Event}
 use Rattle.machine.specs.Run.{events, after, answers, filled, listRefusal}
 use Rattle.machine.specs.Kept.{Kept}
-use Rattle.machine.specs.View.{stateOf, view, IsState}
+use Rattle.state.specs.View.{stateOf, view, IsState}
 use Rattle.machine.proofs.Laws.Settings.{after-settings}
 use Rattle.machine.proofs.Laws.Run.{after-kept, after-append, answers-append}
 use Rattle.controller.specs.Promises.{ListRun}
-use Rattle.image.specs.Layout.{imageLength, image}
+use Rattle.image_bytes.specs.Layout.{imageLength}
+use Rattle.image_bytes.proofs.Laws.Tests.{cond-true, cond-false}
+use Rattle.image.specs.Image.{image}
 use Rattle.image.specs.Load.{loadRefusal, resumed}
 use Rattle.image.specs.Save.{saveRefusal, saved}
 use Rattle.image.specs.Restored.{Restored}
 use Rattle.image.specs.Promises.{Saved, Loaded}
 use Rattle.image.specs.Run.{runRefusal, SplitRun, ImageRun}
-use Rattle.image.proofs.Laws.Tests.{cond-true, cond-false}
 use Rattle.image.proofs.Laws.Save.{saveRefusal-short, saveRefusal-room}
 use Rattle.image.proofs.Laws.Load.{loaded-accepted}
 use Rattle.image.proofs.Laws.RoundTrip.{image-restored}

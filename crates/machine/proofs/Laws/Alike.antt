@@ -14,10 +14,10 @@ use Rattle.translation.proofs.Tests.{split}
 use Rattle.machine.specs.State.{Public, Machine, withLocked, lift}
 use Rattle.machine.specs.Lines.{secondSet, put, putCell, inhibited, translates}
 use Rattle.machine.specs.DataPort.{settled, dataWritten, plainData, dropped, appended, codeFull, loadByte, writeData}
-use Rattle.machine.specs.Commands.{understood, commandWritten, loadCut, plainCommand, hasCode, codeAsked, closed, lockedUp, acts, writeCommand}
-use Rattle.machine.specs.Frames.{errorsSet, positioned, keyError, breaking, damagedKey, ignored, unlocked, counted, try}
-use Rattle.machine.specs.Frames.{keyed, keyedByte, translated, soundKey, keyboardFrame, mouseFrame, taken, timedOut, pinned}
-use Rattle.machine.specs.Lock.{keyOpens}
+use Rattle.machine.specs.Commands.{understood, commandWritten, loadCut, plainCommand, hasCode, codeAsked, lockSet, lockCommand, acts, writeCommand}
+use Rattle.machine.specs.Devices.{errorsSet, positioned, keyError, breaking, damagedKey, ignored, unlocked, keyMatched, try}
+use Rattle.machine.specs.Devices.{yieldDelivered, byteDelivered, translated, soundKey, keyboardFrame, mouseFrame, taken, timedOut, pinned}
+use Rattle.machine.specs.Lock.{keyCompletes}
 use Rattle.machine.specs.Events.{Event, value, limit, refusal, emptied, accept, step, pulse, reply, answer}
 use Rattle.machine.proofs.Laws.Events.{accept-keyboard}
 
@@ -79,19 +79,19 @@ unfolding codeAsked
 codeAsked-alike h =
     size-alike (λ m. hasCode m && not (secondSet (m .plain))) h (rw (h .size, h .plain)) (lift-alike (put 0xFA) h) (lift-alike (put 0xF1) h)
 
-closed-alike : {m n : Machine} → Alike m n → Alike (closed m) (closed n)
-closed-alike h = record { plain = ap (λ p. withLocked p true) (h .plain); size = h .size }
+lockSet-alike : {m n : Machine} → Alike m n → Alike (lockSet m) (lockSet n)
+lockSet-alike h = record { plain = ap (λ p. withLocked p true) (h .plain); size = h .size }
 
-lockedUp-alike : {m n : Machine} → Alike m n → Alike (lockedUp m) (lockedUp n)
-unfolding lockedUp
-lockedUp-alike h = size-alike hasCode h (rw (h .size)) (lift-alike (putCell 0x13) (closed-alike h)) h
+lockCommand-alike : {m n : Machine} → Alike m n → Alike (lockCommand m) (lockCommand n)
+unfolding lockCommand
+lockCommand-alike h = size-alike hasCode h (rw (h .size)) (lift-alike (putCell 0x13) (lockSet-alike h)) h
 
 acts-alike : {m n : Machine} (c : ℕ) → Alike m n → Alike (acts c m) (acts c n)
 unfolding acts
 acts-alike c h =
     cond-alike (eqb c 0xA4) (λ t. codeAsked-alike h) λ t.
     cond-alike (eqb c 0xA5) (λ t. dropped-alike h) λ t.
-    cond-alike (eqb c 0xA6) (λ t. lockedUp-alike h) (λ t. lift-alike (plainCommand c) h)
+    cond-alike (eqb c 0xA6) (λ t. lockCommand-alike h) (λ t. lift-alike (plainCommand c) h)
 
 writeCommand-alike : {m n : Machine} (c : ℕ) → Alike m n → Alike (writeCommand c m) (writeCommand c n)
 unfolding writeCommand
@@ -123,15 +123,15 @@ unlocked-tried : (m : Machine) → Tried m (unlocked m)
 unlocked-tried m = record { plain = rw (putCell-locked 0x14 (withLocked (m .plain) false)); code = refl }
 
 try-tried : (x : ℕ) (m : Machine) → m .plain .locked ≡ true → Tried m (try x m)
-unfolding try counted
+unfolding try keyMatched
 try-tried x m locked =
     let stays : (k : ℕ) → Tried m (positioned k m) = λ k. positioned-tried k m locked in
-    cond-tried (ignored x (m .plain)) (stays (m .secret .position)) (cond-tried (keyOpens _ _ x) (unlocked-tried m) (stays _))
+    cond-tried (ignored x (m .plain)) (stays (m .secret .position)) (cond-tried (keyCompletes _ _ x) (unlocked-tried m) (stays _))
 
 -- a byte that comes while locked
-keyed-tried : (x : ℕ) (m : Machine) → m .plain .locked ≡ true → Tried m (keyed (byte x) m)
-unfolding keyed keyedByte
-keyed-tried x m locked =
+yieldDelivered-tried : (x : ℕ) (m : Machine) → m .plain .locked ≡ true → Tried m (yieldDelivered (byte x) m)
+unfolding yieldDelivered byteDelivered
+yieldDelivered-tried x m locked =
     cond-tried (inhibited (m .plain)) (positioned-tried (m .secret .position) m locked)
     (subst (λ (t : Bool). Tried m (cond t (try x m) (lift (put x) m))) (sym locked) (try-tried x m locked))
 
@@ -147,29 +147,29 @@ tried-alike h s t e =
     }
 
 -- a byte that comes while it is not locked
-keyed-put : (x : ℕ) (m : Machine) → m .plain .locked ≡ false → keyed (byte x) m ≡ cond (inhibited (m .plain)) m (lift (put x) m)
-unfolding keyed keyedByte
-keyed-put x m free = ap (λ (t : Bool). cond (inhibited (m .plain)) m (cond t (try x m) (lift (put x) m))) free
+yieldDelivered-put : (x : ℕ) (m : Machine) → m .plain .locked ≡ false → yieldDelivered (byte x) m ≡ cond (inhibited (m .plain)) m (lift (put x) m)
+unfolding yieldDelivered byteDelivered
+yieldDelivered-put x m free = ap (λ (t : Bool). cond (inhibited (m .plain)) m (cond t (try x m) (lift (put x) m))) free
 
 -- bytes that differ only while locked
-bytes-alike : {m n : Machine} (x y : ℕ) → (m .plain .locked ≡ false → x ≡ y) → Alike m n → StillAlike m n (keyed (byte x) m) (keyed (byte y) n)
+bytes-alike : {m n : Machine} (x y : ℕ) → (m .plain .locked ≡ false → x ≡ y) → Alike m n → StillAlike m n (yieldDelivered (byte x) m) (yieldDelivered (byte y) n)
 bytes-alike {m} {n} x y same h together =
     let locks : n .plain .locked ≡ m .plain .locked = ap (λ p. p .locked) (sym (h .plain)) in
     split (m .plain .locked)
-    (λ t. tried-alike h (keyed-tried x m t) (keyed-tried y n (locks ∙ t)) (together t))
-    (λ t. rw (keyed-put x m t, keyed-put y n (locks ∙ t), same t) (test-alike inhibited h h (lift-alike (put y) h)))
+    (λ t. tried-alike h (yieldDelivered-tried x m t) (yieldDelivered-tried y n (locks ∙ t)) (together t))
+    (λ t. rw (yieldDelivered-put x m t, yieldDelivered-put y n (locks ∙ t), same t) (test-alike inhibited h h (lift-alike (put y) h)))
 
-keyed-alike : {m n : Machine} (y : Yielded) → Alike m n → StillAlike m n (keyed y m) (keyed y n)
-unfolding keyed keyedByte
-keyed-alike nothing h together = h
-keyed-alike (byte x) h together = bytes-alike x x (λ t. refl) h together
+yieldDelivered-alike : {m n : Machine} (y : Yielded) → Alike m n → StillAlike m n (yieldDelivered y m) (yieldDelivered y n)
+unfolding yieldDelivered byteDelivered
+yieldDelivered-alike nothing h together = h
+yieldDelivered-alike (byte x) h together = bytes-alike x x (λ t. refl) h together
 
 -- what a sound frame does, by what its byte is translated to
 abbrev translatedKey : Translation → Machine → Machine
-translatedKey t m = keyed (t .yields) (lift (breaking (t .breaks)) (lift (errorsSet false false) m))
+translatedKey t m = yieldDelivered (t .yields) (lift (breaking (t .breaks)) (lift (errorsSet false false) m))
 
 translatedKey-alike : {m n : Machine} (t : Translation) → Alike m n → StillAlike m n (translatedKey t m) (translatedKey t n)
-translatedKey-alike t h = keyed-alike (t .yields) (lift-alike (breaking (t .breaks)) (lift-alike (errorsSet false false) h))
+translatedKey-alike t h = yieldDelivered-alike (t .yields) (lift-alike (breaking (t .breaks)) (lift-alike (errorsSet false false) h))
 
 soundKey-alike : {m n : Machine} (b : ℕ) → Alike m n → StillAlike m n (soundKey b m) (soundKey b n)
 unfolding soundKey

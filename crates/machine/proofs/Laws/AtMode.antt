@@ -12,11 +12,12 @@ use Rattle.translation.specs.ScanCodes.{Yielded, nothing, byte}
 use Rattle.machine.specs.Settings.{Settings}
 use Rattle.machine.specs.State.{Output, Errors, Host, Ports, Sending, Public, Machine, fresh, lift}
 use Rattle.machine.specs.State.{withOutput, withErrors, withHost, withPorts, withSending, withBreaks, withRam}
-use Rattle.machine.specs.Lines.{within, atMode, inhibited, put}
+use Rattle.translation.specs.Bits.{within}
+use Rattle.machine.specs.Lines.{atMode, inhibited, put}
 use Rattle.machine.specs.DataPort.{dataWritten, dropped, plainData, writeData}
 use Rattle.machine.specs.SecondSet.{lineWritten, singleCommand, secondCommand}
 use Rattle.machine.specs.Commands.{ps2Only, understood, pendingOf, commandWritten, loadCut, plainCommand, acts, writeCommand}
-use Rattle.machine.specs.Frames.{keyError, keyed, keyedByte, soundKey, keyboardFrame, taken, timedOut, pinned}
+use Rattle.machine.specs.Devices.{keyError, yieldDelivered, byteDelivered, soundKey, keyboardFrame, taken, timedOut, pinned}
 use Rattle.machine.specs.Events.{Event, value, refusal, emptied, accept, step}
 use Rattle.machine.specs.Run.{after}
 use Rattle.machine.specs.Modes.{AtCode, AtPublic, AtMachine}
@@ -151,10 +152,10 @@ module _ (m : Machine) (a : AtMachine m) where
       cond-holds AtMachine (eqb c 0xA6) (λ e. absurd (never c known 0xA6 refl e)) λ _.
       at-lift (plainCommand c) m a (plainCommand-at (a .plain) c known)
 
-  keyed-at : (y : Yielded) → AtMachine (keyed y m)
-  unfolding keyed keyedByte
-  keyed-at nothing = a
-  keyed-at (byte x) =
+  yieldDelivered-at : (y : Yielded) → AtMachine (yieldDelivered y m)
+  unfolding yieldDelivered byteDelivered
+  yieldDelivered-at nothing = a
+  yieldDelivered-at (byte x) =
       cond-both AtMachine (inhibited (m .plain)) a
       (cond-holds AtMachine (m .plain .locked) (λ l. not-both l (a .plain .locked)) (λ _. at-lift (put x) m a (put-at (a .plain) x)))
 
@@ -171,7 +172,7 @@ writeCommand-at m a at′ c =
 keyboardFrame-at : (c : Check) (m : Machine) → AtMachine m → AtMachine (keyboardFrame c m)
 unfolding keyboardFrame soundKey
 keyboardFrame-at (sound b) m a =
-    keyed-at _ (record { plain = withBreaks-at (withErrors-at (a .plain) _) _; code = a .code }) _
+    yieldDelivered-at _ (record { plain = withBreaks-at (withErrors-at (a .plain) _) _; code = a .code }) _
 keyboardFrame-at parity m a = record { plain = keyError-at (withBreaks-at (withErrors-at (a .plain) _) false); code = a .code }
 keyboardFrame-at broken m a = record { plain = keyError-at (withBreaks-at (withErrors-at (a .plain) _) false); code = a .code }
 keyboardFrame-at noise m a = a

@@ -6,11 +6,8 @@ use mathlib.Core.Bool.{Bool, true, false}
 use native.Mathlib.Omega.{arith}
 use lib.Dec.{eqb}
 use borrow.Author.Tests.{eqb-true, eqb-false}
-use Rattle.translation.specs.Bits.{bit, has}
-use Rattle.machine.specs.State.{Public}
-use Rattle.machine.specs.Lines.{weight, nibble}
+use Rattle.translation.specs.Bits.{bit, has, weight, nibble}
 use Rattle.machine.proofs.Laws.Bounds.{weight-le}
-use Rattle.machine.specs.View.{flags}
 use Rattle.translation.proofs.Tests.{split}
 
 -- ---- weight
@@ -48,7 +45,7 @@ weight-has n k = weight-test (n / 2 ^ k % 2) (omega arith)
 
 -- ---- two nibbles
 module _ (a b c d e f g h : Bool) where
-  abbrev lines : ℕ
+  abbrev pub lines : ℕ
   lines = nibble a b c d + 16 * nibble e f g h
 
   weights : lines ≡
@@ -60,55 +57,29 @@ module _ (a b c d e f g h : Bool) where
       × (weight 1 e ≤ 1) × (weight 1 f ≤ 1) × (weight 1 g ≤ 1) × (weight 1 h ≤ 1)
   units = (weight-le 1 a, weight-le 1 b, weight-le 1 c, weight-le 1 d, weight-le 1 e, weight-le 1 f, weight-le 1 g, weight-le 1 h)
 
-  lines-0 : has lines 0 ≡ a
+  pub lines-0 : has lines 0 ≡ a
   lines-0 = has-line lines 0 a (omega (arith, weights, units))
 
-  lines-1 : has lines 1 ≡ b
+  pub lines-1 : has lines 1 ≡ b
   lines-1 = has-line lines 1 b (omega (arith, weights, units))
 
-  lines-2 : has lines 2 ≡ c
+  pub lines-2 : has lines 2 ≡ c
   lines-2 = has-line lines 2 c (omega (arith, weights, units))
 
-  lines-3 : has lines 3 ≡ d
+  pub lines-3 : has lines 3 ≡ d
   lines-3 = has-line lines 3 d (omega (arith, weights, units))
 
-  lines-4 : has lines 4 ≡ e
+  pub lines-4 : has lines 4 ≡ e
   lines-4 = has-line lines 4 e (omega (arith, weights, units))
 
-  lines-5 : has lines 5 ≡ f
+  pub lines-5 : has lines 5 ≡ f
   lines-5 = has-line lines 5 f (omega (arith, weights, units))
 
-  lines-6 : has lines 6 ≡ g
+  pub lines-6 : has lines 6 ≡ g
   lines-6 = has-line lines 6 g (omega (arith, weights, units))
 
-  lines-below : h ≡ false → lines < 128
+  pub lines-below : h ≡ false → lines < 128
   lines-below none = omega (arith, weights, ap (weight 1) none, units)
-
--- ---- flags
-module _ (p : Public) where
-  pub flags-full : has (flags p) 0 ≡ p .output .full
-  flags-full = lines-0 _ _ _ _ _ _ _ _
-
-  pub flags-mouse : has (flags p) 1 ≡ p .output .mouse
-  flags-mouse = lines-1 _ _ _ _ _ _ _ _
-
-  pub flags-command : has (flags p) 2 ≡ p .host .command
-  flags-command = lines-2 _ _ _ _ _ _ _ _
-
-  pub flags-terr : has (flags p) 3 ≡ p .errors .terr
-  flags-terr = lines-3 _ _ _ _ _ _ _ _
-
-  pub flags-perr : has (flags p) 4 ≡ p .errors .perr
-  flags-perr = lines-4 _ _ _ _ _ _ _ _
-
-  pub flags-breaks : has (flags p) 5 ≡ p .breaks
-  flags-breaks = lines-5 _ _ _ _ _ _ _ _
-
-  pub flags-locked : has (flags p) 6 ≡ p .locked
-  flags-locked = lines-6 _ _ _ _ _ _ _ _
-
-  pub flags-below : flags p < 128
-  flags-below = lines-below _ _ _ _ _ _ _ _ refl
 
 -- a number of seven bits, halved until nothing is left
 halved : (x y₁ y₂ y₃ y₄ y₅ y₆ b₀ b₁ b₂ b₃ b₄ b₅ b₆ : ℕ) →

@@ -8,9 +8,9 @@ use native.Mathlib.Omega.{arith}
 use lib.ListN.{getD, set, replicate}
 use lib.Dec.{eqb}
 use lib.Bits.{bitAnd, bitOr, and-le-l, or-lt}
-use Rattle.translation.specs.Bits.{bit, has}
+use Rattle.translation.specs.Bits.{bit, has, weight, setBit, clearBit, nibble}
 use Rattle.machine.specs.State.{Public}
-use Rattle.machine.specs.Lines.{weight, setBit, clearBit, atMode, secondSet, nibble, inputPort, mouseOff, keyboardOff, keyboardInterrupt}
+use Rattle.machine.specs.Lines.{atMode, secondSet, inputPort, mouseOff, keyboardOff, keyboardInterrupt}
 use Rattle.machine.specs.Lines.{keyboardRequest, mouseRequest, outputPort}
 use Rattle.machine.specs.Commands.{polled, testInputs}
 use Rattle.machine.proofs.Laws.Cond.{cond-both}

@@ -4,21 +4,22 @@ use mathlib.Core.Bool as bool
 use mathlib.Core.Bool.{Bool, true, false, cond, not, _&&_, _||_, false≢true}
 use Prim.Native.Nat.{ℕ, _-_, _/_, _%_, _≤_, _<_}
 use native.Mathlib.Omega.{arith}
-use lib.Dec.{leb}
+use lib.Dec.{eqb, leb}
 use borrow.Author.Tests.{leb-true, le-leb, lt-leb, eq-eqb, ne-eqb}
-use Rattle.translation.specs.Bits.{has}
+use Rattle.translation.specs.Bits.{has, within, clearBit, nibble}
 use Rattle.translation.proofs.Tests.{split}
 use Rattle.machine.specs.Settings.{Settings}
-use Rattle.machine.specs.State.{Public, Machine, lift}
-use Rattle.machine.specs.Lines.{within, clearBit, atMode, secondSet, nibble, put, putCell, keyboardOff, mouseOff}
+use Rattle.machine.specs.State.{Public, Machine, withHost, afterCommand, lift}
+use Rattle.machine.specs.Lines.{atMode, secondSet, put, putCell, keyboardOff, mouseOff}
 use Rattle.machine.specs.Lines.{keyboardDisabled, keyboardEnabled, mouseDisabled, mouseEnabled}
 use Rattle.machine.specs.DataPort.{dropped}
 use Rattle.machine.specs.SecondSet.{secondOnly, secondCommand}
-use Rattle.machine.specs.Commands.{ps2Only, firstOnly, notInSet, leftOut, understood, polled, commandWritten, loadCut}
+use Rattle.machine.specs.Commands.{ps2Only, firstOnly, notInSet, leftOut, understood, polled, pendingOf, cellNamed, loadCut}
 use Rattle.machine.specs.Commands.{selfTested, testInputs, testInputsPut}
 use Rattle.machine.specs.Commands.{lowLinesShown, highLinesShown, inputPortPut, outputPortPut, namedCellPut}
-use Rattle.machine.specs.Commands.{plainCommand, acts, hasCode, codeAsked, closed, lockedUp, writeCommand, pulseOf}
-use Rattle.machine.proofs.Laws.Cond.{and-false, or-false}
+use Rattle.machine.specs.Commands.{plainCommand, acts, hasCode, codeAsked, lockSet, lockCommand, writeCommand, pulseOf}
+use Rattle.machine.proofs.Laws.Cond.{cond-both, and-false, or-false}
+use Rattle.machine.proofs.Laws.SecondSet.{second-none}
 
 -- ---- within
 and-left : (a b : Bool) → (a && b) ≡ true → a ≡ true
@@ -189,11 +190,16 @@ module _
           ne-eqb _ _ nE0,
         )
 
-    pub command-low : c < 0x20 → lift (secondCommand c) m ≡ lift (plainCommand c) m
-    command-low h = command-other (simp (lt-leb 0x20 c h))
+    -- with the first set none of the second's own is left by then
+    module _ (known : secondSet (m .plain) ≡ false → secondOnly c ≡ false) where
+      own : lift (λ p. cond (secondSet p) (secondCommand c p) p) m ≡ lift (secondCommand c) m
+      own = ap (λ (p : Public). lift (λ _. p) m) (split (secondSet (m .plain)) (λ two. simp two) (λ one. simp one (sym (second-none c (m .plain) (known one)))))
 
-    pub command-high : 0x20 ≤ c → 0x3F < c → lift (secondCommand c) m ≡ lift (plainCommand c) m
-    command-high low h = command-other (simp (le-leb 0x20 c low, lt-leb c 0x3F h))
+      pub command-low : c < 0x20 → lift (λ p. cond (secondSet p) (secondCommand c p) p) m ≡ lift (plainCommand c) m
+      command-low h = own ∙ command-other (simp (lt-leb 0x20 c h))
+
+      pub command-high : 0x20 ≤ c → 0x3F < c → lift (λ p. cond (secondSet p) (secondCommand c p) p) m ≡ lift (plainCommand c) m
+      command-high low h = own ∙ command-other (simp (le-leb 0x20 c low, lt-leb c 0x3F h))
 
 -- ---- acts
 module _ (m : Machine) (c : ℕ) where
@@ -205,7 +211,7 @@ module _ (m : Machine) (c : ℕ) where
   unfolding acts
   acts-A5 key = simp key
 
-  pub acts-A6 : c ≡ 0xA6 → lockedUp m ≡ acts c m
+  pub acts-A6 : c ≡ 0xA6 → lockCommand m ≡ acts c m
   unfolding acts
   acts-A6 key = simp key
 
@@ -214,10 +220,26 @@ module _ (m : Machine) (c : ℕ) where
   acts-other nA4 nA5 nA6 = simp (ne-eqb _ _ nA4, ne-eqb _ _ nA5, ne-eqb _ _ nA6)
 
 -- ---- writeCommand
-pub writeCommand-known : (m : Machine) (c : ℕ) {known : ℕ} → known ≡ understood (m .plain .settings) c →
-    acts known (lift (commandWritten known) (loadCut m)) ≡ writeCommand c m
+pub writeCommand-known : (m : Machine) (c : ℕ) {known code cell : ℕ} → known ≡ understood (m .plain .settings) c →
+    code ≡ pendingOf (understood (m .plain .settings) c) →
+    cell ≡ cellNamed (understood (m .plain .settings) c) →
+    acts known (lift (λ p. withHost p (afterCommand code cell)) (loadCut m)) ≡ writeCommand c m
 unfolding writeCommand
-writeCommand-known m c same = ap (λ (k : ℕ). acts k (lift (commandWritten k) (loadCut m))) same
+writeCommand-known m c isKnown isCode isCell = simp (isKnown, isCode, isCell)
+
+-- the settings are still those that it was understood by, when it acts
+pub loadCut-settings : (m : Machine) → loadCut m .plain .settings ≡ m .plain .settings
+unfolding loadCut
+loadCut-settings m = cond-both (λ (x : Machine). x .plain .settings ≡ m .plain .settings) (eqb (m .plain .host .pending) 3) refl refl
+
+pub acts-understood : (m n : Machine) (c : ℕ) {known code cell : ℕ} → known ≡ understood (m .plain .settings) c →
+    n ≡ lift (λ p. withHost p (afterCommand code cell)) (loadCut m) →
+    secondSet (n .plain) ≡ false →
+    secondOnly known ≡ false
+acts-understood m n c isKnown isNow one =
+    let first : m .plain .settings .secondSet ≡ false =
+    ap (λ (x : Settings). x .secondSet) (sym (loadCut-settings m)) ∙ ap (λ (x : Machine). secondSet (x .plain)) (sym isNow) ∙ one in
+    rw isKnown (understood-known (m .plain .settings) c .second first)
 
 -- ---- testInputs, pulseOf
 module _ (p : Public) {r : ℕ} {at′ off : Bool} (isAt : at′ ≡ atMode p) (isOff : off ≡ keyboardOff p) where
@@ -251,10 +273,10 @@ module _ (m : Machine) {has : Bool} (isHas : has ≡ hasCode m) where
     unfolding codeAsked
     codeAsked-none h = simp (simp (isHas, isSecond) at h)
 
-  pub lockedUp-some : has ≡ true → lift (putCell 0x13) (closed m) ≡ lockedUp m
-  unfolding lockedUp
-  lockedUp-some h = simp (sym isHas ∙ h)
+  pub lockCommand-some : has ≡ true → lift (putCell 0x13) (lockSet m) ≡ lockCommand m
+  unfolding lockCommand
+  lockCommand-some h = simp (sym isHas ∙ h)
 
-  pub lockedUp-none : has ≡ false → m ≡ lockedUp m
-  unfolding lockedUp
-  lockedUp-none h = simp (sym isHas ∙ h)
+  pub lockCommand-none : has ≡ false → m ≡ lockCommand m
+  unfolding lockCommand
+  lockCommand-none h = simp (sym isHas ∙ h)

@@ -14,17 +14,17 @@ use Rattle.machine.specs.Settings.{Settings}
 use Rattle.machine.specs.State.{Public, Secret, Machine, fresh, lift}
 use Rattle.machine.specs.Lines.{secondSet, inputPort, inhibited, put}
 use Rattle.machine.specs.DataPort.{loadByte, writeData}
-use Rattle.machine.specs.Commands.{hasCode, loadCut, codeAsked, lockedUp, acts, writeCommand}
-use Rattle.machine.specs.Lock.{opening, reached, begun, keyOpens, keyLeads}
-use Rattle.machine.specs.Frames.{errorsSet, breaking, ignored, keyError, damagedKey, counted, try, keyed, keyedByte}
-use Rattle.machine.specs.Frames.{translated, soundKey, keyboardFrame, mousePut, mouseFrame, timedOut}
+use Rattle.machine.specs.Commands.{hasCode, loadCut, codeAsked, lockCommand, acts, writeCommand}
+use Rattle.machine.specs.Lock.{codeTyped, reached, begun, keyCompletes, keyLeads}
+use Rattle.machine.specs.Devices.{errorsSet, breaking, ignored, keyError, damagedKey, keyMatched, try, yieldDelivered, byteDelivered}
+use Rattle.machine.specs.Devices.{translated, soundKey, keyboardFrame, mousePut, mouseFrame, timedOut}
 use Rattle.machine.specs.Events.{Event, value, isWrite, refusal, accept, step}
 use Rattle.machine.specs.Run.{after}
 use Rattle.machine.specs.Kept.{Kept}
 use Rattle.machine.specs.Counting.{Counting, counts, starts, passes, byteCounting, frameCounting, lockCounting, counting}
-use Rattle.machine.specs.Counting.{keysWith, opensWith, keysAfter, ByRule}
+use Rattle.machine.specs.Counting.{keysWith, countingCompletes, keysAfter, ByRule}
 use Rattle.machine.proofs.Laws.Cond.{cond-holds, cond-both, not-both}
-use Rattle.machine.proofs.Laws.Lock.{reached-none, reached-begun, reached-next, opening-next}
+use Rattle.machine.proofs.Laws.Lock.{reached-none, reached-begun, reached-next, codeTyped-next}
 use Rattle.machine.proofs.Laws.Events.{accepted-write, accept-keyboard, accept-holds, step-accepted, step-refused}
 use Rattle.machine.proofs.Laws.Alike.{putCell-locked}
 use Rattle.machine.proofs.Laws.KeptParts.{SettingsKept}
@@ -32,7 +32,7 @@ use Rattle.machine.proofs.Laws.Kept.{keeps, fresh-kept}
 
 -- ---- locked, what an event leaves: the lock as the rule has it, and if it is closed the position that the keys lead to
 record Left (code keys : List ℕ) (c : Counting) (n : Machine) : Type 0 where
-  locked : n .plain .locked ≡ not (opensWith code c keys)
+  locked : n .plain .locked ≡ not (countingCompletes code c keys)
   position : n .plain .locked ≡ true → n .secret .position ≡ reached (n .secret .code) (keysWith c keys)
 
 -- nothing is counted, and the lock stays
@@ -71,28 +71,28 @@ module _ (keys : List ℕ) where
   Follows m = m .secret .position ≡ reached (m .secret .code) keys
 
   passes-left : (m : Machine) {n : Machine} → Follows m → Stays m n → Left (m .secret .code) keys passes n
-  unfolding keysWith opensWith
+  unfolding keysWith countingCompletes
   passes-left m f s =
       record { locked = s .locked; position = λ _. subst (λ (x : Secret). x .position ≡ reached (x .code) keys) (sym (s .secret)) f }
 
   -- a key that is counted
-  counts-left : (x : ℕ) (m : Machine) → m .plain .locked ≡ true → Follows m → Left (m .secret .code) keys (counts x) (counted x m)
-  unfolding counted keysWith opensWith
+  counts-left : (x : ℕ) (m : Machine) → m .plain .locked ≡ true → Follows m → Left (m .secret .code) keys (counts x) (keyMatched x m)
+  unfolding keyMatched keysWith countingCompletes
   counts-left x m l f =
       let code = m .secret .code in
       let k = m .secret .position in
-      let opens : keyOpens code k x ≡ opening code (x ∷ keys) = ap (λ (n : ℕ). keyOpens code n x) f ∙ sym (opening-next code keys x) in
+      let unlocks : keyCompletes code k x ≡ codeTyped code (x ∷ keys) = ap (λ (n : ℕ). keyCompletes code n x) f ∙ sym (codeTyped-next code keys x) in
       let leads : keyLeads code k x ≡ reached code (x ∷ keys) = ap (λ (n : ℕ). keyLeads code n x) f ∙ sym (reached-next code keys x) in
-      cond-holds (Left code keys (counts x)) (keyOpens code k x)
-      (λ o. record { locked = putCell-locked 0x14 _ ∙ ap not (sym (sym opens ∙ o)); position = λ t. not-both t (putCell-locked 0x14 _) })
-      (λ o. record { locked = l ∙ ap not (sym (sym opens ∙ o)); position = λ _. leads })
+      cond-holds (Left code keys (counts x)) (keyCompletes code k x)
+      (λ o. record { locked = putCell-locked 0x14 _ ∙ ap not (sym (sym unlocks ∙ o)); position = λ t. not-both t (putCell-locked 0x14 _) })
+      (λ o. record { locked = l ∙ ap not (sym (sym unlocks ∙ o)); position = λ _. leads })
 
-  byte-left : (m : Machine) → m .plain .locked ≡ true → Follows m → (y : Yielded) → Left (m .secret .code) keys (byteCounting y (m .plain)) (keyed y m)
-  unfolding byteCounting keyed keyedByte try
+  byte-left : (m : Machine) → m .plain .locked ≡ true → Follows m → (y : Yielded) → Left (m .secret .code) keys (byteCounting y (m .plain)) (yieldDelivered y m)
+  unfolding byteCounting yieldDelivered byteDelivered try
   byte-left m l f nothing = passes-left m f (record { locked = l; secret = refl })
   byte-left m l f (byte x) =
       let stays : Left (m .secret .code) keys passes m = passes-left m f (record { locked = l; secret = refl }) in
-      let tried : keyedByte x m ≡ cond (inhibited (m .plain)) m (try x m) =
+      let tried : byteDelivered x m ≡ cond (inhibited (m .plain)) m (try x m) =
       ap (λ (t : Bool). cond (inhibited (m .plain)) m (cond t (try x m) (lift (put x) m))) l in
       rw tried
       (split (inhibited (m .plain)) (λ i. rw i stays)
@@ -100,13 +100,13 @@ module _ (keys : List ℕ) where
 
   module _ (m : Machine) (l : m .plain .locked ≡ true) (f : Follows m) where
     sound-left : (y : Yielded) (d : Bool) →
-        Left (m .secret .code) keys (byteCounting y (m .plain)) (keyed y (lift (breaking d) (lift (errorsSet false false) m)))
+        Left (m .secret .code) keys (byteCounting y (m .plain)) (yieldDelivered y (lift (breaking d) (lift (errorsSet false false) m)))
     unfolding byteCounting inputPort
     sound-left nothing d = byte-left (lift (breaking d) (lift (errorsSet false false) m)) l f nothing
     sound-left (byte x) d = byte-left (lift (breaking d) (lift (errorsSet false false) m)) l f (byte x)
 
     damaged-left : (t e : Bool) → Left (m .secret .code) keys starts (damagedKey t e m)
-    unfolding keyError inputPort keysWith opensWith
+    unfolding keyError inputPort keysWith countingCompletes
     damaged-left t e =
         record {
           locked = cond-both (λ (p : Public). p .locked ≡ true) (m .plain .locked || inhibited (m .plain)) l l;
@@ -154,20 +154,20 @@ module _ (m : Machine) (z : AtZero m) where
   loadCut-zero = cond-both AtZero (eqb (m .plain .host .pending) 3) z z
 
   acts-zero : (c : ℕ) → AtZero (acts c m)
-  unfolding acts codeAsked lockedUp
+  unfolding acts codeAsked lockCommand
   acts-zero c =
       cond-both AtZero (eqb c 0xA4) (cond-both AtZero (hasCode m && not (secondSet (m .plain))) z z)
       (cond-both AtZero (eqb c 0xA5) z (cond-both AtZero (eqb c 0xA6) (cond-both AtZero (hasCode m) refl z) z))
 
-  keyed-zero : m .plain .locked ≡ false → (y : Yielded) → AtZero (keyed y m)
-  unfolding keyed keyedByte
-  keyed-zero u nothing = z
-  keyed-zero u (byte x) =
+  yieldDelivered-zero : m .plain .locked ≡ false → (y : Yielded) → AtZero (yieldDelivered y m)
+  unfolding yieldDelivered byteDelivered
+  yieldDelivered-zero u nothing = z
+  yieldDelivered-zero u (byte x) =
       cond-both AtZero (inhibited (m .plain)) z (cond-holds AtZero (m .plain .locked) (λ l. not-both l u) (λ _. z))
 
 frame-zero : (m : Machine) → AtZero m → m .plain .locked ≡ false → (c : Check) → AtZero (keyboardFrame c m)
 unfolding keyboardFrame soundKey
-frame-zero m z u (sound b) = keyed-zero _ z u (translated b (m .plain) .yields)
+frame-zero m z u (sound b) = yieldDelivered-zero _ z u (translated b (m .plain) .yields)
 frame-zero m z u parity = refl
 frame-zero m z u broken = refl
 frame-zero m z u noise = z
@@ -200,7 +200,7 @@ module _ (m : Machine) (keys : List ℕ) (f : Following m keys) where
   following-next e = record { kept = keeps m e (f .kept); follows = follows-next e }
 
   by-following : ByRule m keys
-  by-following = record { position = f .follows; opens = λ e l. step-left keys m l (f .follows l) e .locked }
+  by-following = record { position = f .follows; unlocks = λ e l. step-left keys m l (f .follows l) e .locked }
 
 by-rule-after : (m : Machine) (keys : List ℕ) → Following m keys → (es : List Event) → ByRule (after m es) (keysAfter m es keys)
 unfolding after keysAfter

@@ -1,15 +1,11 @@
 -- Laws of the definitions in specs/DataPort. Assumes nothing.
 use mathlib.Core.Path.{_≡_}
-use mathlib.Core.List.{List}
-use Prim.Native.Nat.{ℕ, _%_, _≤_, _<_}
-use lib.ListN.{length, take, drop, getD}
+use Prim.Native.Nat.{ℕ, _%_}
 use borrow.Author.Tests.{eq-eqb, ne-eqb}
 use Rattle.machine.specs.State.{Machine, lift}
 use Rattle.machine.specs.Lines.{withMode, put, putMouse}
 use Rattle.machine.specs.DataPort.{settled, dataWritten, send, sendKeyboard, latched, cellWritten, plainData}
-use Rattle.machine.specs.DataPort.{dropped, appended, loadByte, writeData}
-use Rattle.machine.specs.View.{stateLength, view}
-use Rattle.machine.proofs.Laws.Code.{code-full, code-room, code-long}
+use Rattle.machine.specs.DataPort.{loadByte, writeData}
 
 -- ---- plainData, by the pending code
 module _ (m : Machine) (v : ℕ) where
@@ -48,15 +44,6 @@ module _ (m : Machine) (v : ℕ) where
 pub loadByte-end : (m : Machine) (v : ℕ) → v ≡ 0 → lift settled m ≡ loadByte v m
 unfolding loadByte
 loadByte-end m v h = simp (eq-eqb _ _ h)
-
-module _ (s : List ℕ) (v : ℕ) (long : length s ≡ stateLength) (some : v ≡ 0 → ⊥) where
-  pub loadByte-full : 16 ≤ getD s 10 0 → dropped (lift settled (view s)) ≡ loadByte v (view s)
-  unfolding loadByte
-  loadByte-full h = simp (ne-eqb _ _ some, code-full (getD s 10 0) (take 16 (drop 12 s)) (code-long s long) h)
-
-  pub loadByte-room : getD s 10 0 < 16 → appended v (view s) ≡ loadByte v (view s)
-  unfolding loadByte
-  loadByte-room h = simp (ne-eqb _ _ some, code-room (getD s 10 0) (take 16 (drop 12 s)) (code-long s long) h)
 
 -- ---- writeData
 pub writeData-load : (m : Machine) (v : ℕ) → m .plain .host .pending ≡ 3 → loadByte v (lift dataWritten m) ≡ writeData v m

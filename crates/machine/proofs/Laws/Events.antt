@@ -12,8 +12,9 @@ use Rattle.machine.specs.State.{Public, Machine, lift}
 use Rattle.machine.specs.Lines.{inputFull}
 use Rattle.machine.specs.DataPort.{writeData}
 use Rattle.machine.specs.Commands.{writeCommand}
-use Rattle.machine.specs.Frames.{keyboardFrame, mouseFrame, taken, timedOut, pinned}
-use Rattle.machine.specs.Events.{Event, event, value, valueOf, isWrite, isFrame, endsSending, limit, fromNoMouse, deviceOff, refusal, stateRefusal}
+use Rattle.machine.specs.Devices.{keyboardFrame, mouseFrame, taken, timedOut, pinned}
+use Rattle.translation.specs.Bits.{word}
+use Rattle.machine.specs.Events.{Event, event, value, isWrite, isFrame, endsSending, limit, fromNoMouse, deviceOff, refusal, stateRefusal}
 use Rattle.machine.specs.Events.{emptied, accept, step, reply, refusedReply, byteRead, oldMark, pulse, lines}
 use Rattle.machine.proofs.Laws.Cond.{cond-holds, cond-both, cond-zero, and-false, or-false}
 
@@ -107,23 +108,23 @@ abbrev EitherState : Public → ℕ → ℕ → ℕ → Type 0
 EitherState p k j n = (n ≡ stateRefusal p k) × (n ≡ stateRefusal p j)
 
 module _ (p : Public) (low high : ℕ) where
-  pub reads-high : 0 < valueOf low high → Either p low high 0 2 2
+  pub reads-high : 0 < word low high → Either p low high 0 2 2
   reads-high h = (refusal-high p _ refl h, refusal-high p _ refl h)
 
-  pub reads-fit : valueOf low high ≤ 0 → Either p low high 0 2 0
+  pub reads-fit : word low high ≤ 0 → Either p low high 0 2 0
   unfolding stateRefusal
   reads-fit h = (refusal-fits p _ refl h refl, refusal-fits p _ refl h refl)
 
-  pub writes-high : 255 < valueOf low high → Either p low high 1 3 2
+  pub writes-high : 255 < word low high → Either p low high 1 3 2
   writes-high h = (refusal-high p _ refl h, refusal-high p _ refl h)
 
-  pub writes-fit : {n : ℕ} → valueOf low high ≤ 255 → EitherState p 1 3 n → Either p low high 1 3 n
+  pub writes-fit : {n : ℕ} → word low high ≤ 255 → EitherState p 1 3 n → Either p low high 1 3 n
   writes-fit h (one, three) = (refusal-fits p _ refl h one, refusal-fits p _ refl h three)
 
-  pub ends-high : 0 < valueOf low high → Either p low high 6 7 2
+  pub ends-high : 0 < word low high → Either p low high 6 7 2
   ends-high h = (refusal-high p _ refl h, refusal-high p _ refl h)
 
-  pub ends-fit : {n : ℕ} → valueOf low high ≤ 0 → EitherState p 6 7 n → Either p low high 6 7 n
+  pub ends-fit : {n : ℕ} → word low high ≤ 0 → EitherState p 6 7 n → Either p low high 6 7 n
   ends-fit h (six, seven) = (refusal-fits p _ refl h six, refusal-fits p _ refl h seven)
 
 -- ---- stateRefusal, where a byte is being sent or not

@@ -13,7 +13,7 @@ use Rattle.machine.specs.Settings.{Settings, ordinary}
 use Rattle.machine.specs.State.{Machine, fresh, lift}
 use Rattle.machine.specs.DataPort.{writeData}
 use Rattle.machine.specs.Commands.{writeCommand}
-use Rattle.machine.specs.Frames.{pinned}
+use Rattle.machine.specs.Devices.{pinned}
 use Rattle.machine.specs.Events.{Event, value, refusal, emptied, accept, step}
 use Rattle.machine.specs.Kept.{Kept}
 use Rattle.machine.proofs.Laws.Cond.{cond-holds, not-both}
@@ -22,7 +22,7 @@ use Rattle.machine.proofs.Laws.Events.{accepted-byte, accepted-write, a
 use Rattle.machine.proofs.Laws.KeptParts.{RamKept, SettingsKept, grouped-kept, withOutput-kept}
 use Rattle.machine.proofs.Laws.KeptDataPort.{writeData-kept}
 use Rattle.machine.proofs.Laws.KeptCommands.{writeCommand-kept}
-use Rattle.machine.proofs.Laws.KeptFrames.{keyboardFrame-kept, mouseFrame-kept, taken-kept, timedOut-kept, pinned-kept}
+use Rattle.machine.proofs.Laws.KeptDevices.{keyboardFrame-kept, mouseFrame-kept, taken-kept, timedOut-kept, pinned-kept}
 
 -- ---- fresh
 module _ (x : Settings) where

@@ -9,10 +9,11 @@ use lib.ListN.{length}
 use borrow.Author.Tests.{eqb-true, eqb-false, ne-eqb, leb-true, le-leb, not-true}
 use Rattle.translation.proofs.Tests.{and-true}
 use Rattle.machine.specs.State.{Machine, lift}
-use Rattle.machine.specs.Lines.{within, clearBit, secondSet, mode, inputPort}
+use Rattle.translation.specs.Bits.{within, clearBit}
+use Rattle.machine.specs.Lines.{secondSet, mode, inputPort}
 use Rattle.machine.specs.SecondSet.{secondOnly}
 use Rattle.machine.specs.Commands.{firstOnly, understood, polled, pendingOf, cellNamed, commandWritten, loadCut, overlaid, selfTested, plainCommand}
-use Rattle.machine.specs.Commands.{hasCode, codeAsked, closed, lockedUp, acts, writeCommand}
+use Rattle.machine.specs.Commands.{hasCode, codeAsked, lockSet, lockCommand, acts, writeCommand}
 use Rattle.machine.specs.Kept.{Kept}
 use Rattle.machine.proofs.Laws.Cond.{cond-holds, cond-both, not-both}
 use Rattle.machine.proofs.Laws.Commands.{Known, understood-known}
@@ -111,14 +112,14 @@ module _ {m : Machine} (k : Kept m) where
   codeAsked-kept = cond-both Kept (hasCode m && not (secondSet (m .plain))) (put-kept k 0xFA (omega arith)) (put-kept k 0xF1 (omega arith))
 
   module _ (settled : m .plain .host .pending ≡ 0) (nobody : m .plain .sending .to ≡ 0) where
-    pub closed-kept : hasCode m ≡ true → Kept (closed m)
-    closed-kept some =
+    pub lockSet-kept : hasCode m ≡ true → Kept (lockSet m)
+    lockSet-kept some =
         let other : length (m .secret .code) ≡ 0 → ⊥ = eqb-false _ _ (not-true _ some) in
         withLock-kept k true 0 (λ _. (omega arith, settled, nobody), λ _. refl)
 
-    pub lockedUp-kept : Kept (lockedUp m)
-    unfolding lockedUp
-    lockedUp-kept = cond-holds Kept (hasCode m) (λ some. putCell-kept (closed-kept some) 0x13) λ _. k
+    pub lockCommand-kept : Kept (lockCommand m)
+    unfolding lockCommand
+    lockCommand-kept = cond-holds Kept (hasCode m) (λ some. putCell-kept (lockSet-kept some) 0x13) λ _. k
 
 -- ---- commandWritten, acts, writeCommand
 module _ {m : Machine} (k : Kept m) (unlocked : m .plain .locked ≡ false) (c : ℕ) (known : Known (m .plain .settings) c) where
@@ -140,7 +141,7 @@ module _ {m : Machine} (k : Kept m) (unlocked : m .plain .locked ≡ false) (c :
   acts-kept settled nobody =
       cond-both Kept (eqb c 0xA4) (codeAsked-kept k)
       (cond-both Kept (eqb c 0xA5) (dropped-kept k unlocked)
-      (cond-holds Kept (eqb c 0xA6) (λ e. lockedUp-kept k (settled (eqb-true _ _ e)) nobody) λ _. plainCommand-kept k c (known .second)))
+      (cond-holds Kept (eqb c 0xA6) (λ e. lockCommand-kept k (settled (eqb-true _ _ e)) nobody) λ _. plainCommand-kept k c (known .second)))
 
 -- after the command has been written its own pending code stands, which is none for A6h
 acts-written-kept : {m : Machine} → Kept m → m .plain .locked ≡ false → m .plain .sending .to ≡ 0 → (c : ℕ) → Known (m .plain .settings) c →

@@ -2,13 +2,14 @@
 -- Assumes nothing.
 use Prim.Native.Nat.{ℕ, _%_, _-_, _<_}
 use mathlib.Core.Path.{_≡_, refl, sym, subst, _∙_}
-use mathlib.Core.Bool.{Bool, true, false, not}
+use mathlib.Core.Bool.{Bool, true, false, not, cond}
 use native.Mathlib.Omega.{arith}
 use lib.Dec.{eqb, leb, ltb}
 use borrow.Author.Tests.{ltb-true}
 use Rattle.translation.proofs.Tests.{split}
 use Rattle.machine.specs.State.{Ports, Machine, lift, withPorts}
-use Rattle.machine.specs.Lines.{within, weight, atMode, secondSet}
+use Rattle.translation.specs.Bits.{within, weight}
+use Rattle.machine.specs.Lines.{atMode, secondSet}
 use Rattle.machine.specs.SecondSet.{secondOnly, lineWritten, singleCommand, secondCommand}
 use Rattle.machine.specs.Kept.{Kept}
 use Rattle.machine.proofs.Laws.Cond.{cond-holds, cond-both, not-both}
@@ -47,6 +48,10 @@ module _ {m : Machine} (k : Kept m) where
         (cond-both P (eqb c 0xC8) (ports-kept _ refl refl low)
         (cond-both P (eqb c 0xC9) (ports-kept _ refl refl low)
         (cond-both P (eqb c 0xCA) (put-kept k _ (omega (arith, weight-le 1 (not (atMode (m .plain)))))) k)))))))
+
+  -- with the first set nothing is done
+  pub ownCommand-kept : (c : ℕ) → Kept (lift (λ p. cond (secondSet p) (secondCommand c p) p) m)
+  ownCommand-kept c = cond-holds (KeptWith (m .secret)) (secondSet (m .plain)) (λ second. own-kept second c) (λ _. k)
 
   pub secondCommand-kept : (c : ℕ) → (secondSet (m .plain) ≡ false → secondOnly c ≡ false) → Kept (lift (secondCommand c) m)
   secondCommand-kept c known =

@@ -1,24 +1,19 @@
 -- Laws of the definitions in specs/Lines. Assumes nothing.
 use mathlib.Core.Path.{_≡_, refl, ap, sym, _∙_}
 use mathlib.Core.Bool.{Bool, true, false, not, _&&_, _||_, or-true, and-true}
-use mathlib.Core.List.{List}
 use Prim.Native.Nat.{ℕ, zero, suc, _+_, _*_, _/_, _%_, _^_, _≤_, _<_}
 use native.Mathlib.Omega.{arith}
-use lib.ListN.{length, getD, take, drop, length-take, List·getD-eq-default}
-use lib.Seq.{getD-take, getD-drop}
 use lib.Bits.{bitAnd, bitOr, and-shr, or-shr, and-mod, or-mod}
 use lib.Dec.{eqb, leb}
 use borrow.Author.Tests.{eq-eqb, ne-eqb}
-use Rattle.translation.specs.Bits.{bit, has}
+use Rattle.translation.specs.Bits.{bit, has, weight, nibble}
 use Rattle.translation.proofs.Tests.{split, equal-below}
 use Rattle.machine.specs.State.{Public, Machine, lift}
-use Rattle.machine.specs.Lines.{weight, nibble, atMode, secondSet, cellOf, override, inputPort, keySwitch, inhibited, mouseInhibited}
+use Rattle.machine.specs.Lines.{atMode, secondSet, cellOf, override, inputPort, keySwitch, inhibited, mouseInhibited}
 use Rattle.machine.specs.Lines.{statusBit5, overlayShown, highNibble}
 use Rattle.machine.specs.Lines.{mouseInterrupt, keyboardInterrupt}
 use Rattle.machine.specs.Lines.{mouseRequest, keyboardRequest, mouseOff, keyboardOff, ps2Port, atPort, outputPort, put, putCell}
-use Rattle.machine.specs.View.{stateLength, public}
 use Rattle.machine.proofs.Laws.Bits.{weight-eqb}
-use Rattle.machine.proofs.Laws.View.{ram-of}
 
 -- ---- nibble
 upper-nibble : (a b c d : Bool) → weight 16 a + weight 32 b + weight 64 c + weight 128 d ≡ 16 * nibble a b c d
@@ -186,19 +181,6 @@ module _ (p : Public) {r : ℕ} {at′ : Bool} (isAt : at′ ≡ atMode p) where
   pub outputPort-ps2 : at′ ≡ false → r ≡ ps2Port p → r ≡ outputPort p
   unfolding outputPort
   outputPort-ps2 h made = made ∙ simp (sym isAt ∙ h)
-
--- ---- cellOf
--- the program finds a cell behind the first 28 bytes
-pub cellOf-at : (s : List ℕ) (k : ℕ) → length s ≡ stateLength → k < 32 → getD s (28 + k) 0 ≡ cellOf (public s) k
-cellOf-at s k long h = sym (ap (λ (xs : List ℕ). getD xs k 0) (ram-of s long) ∙ getD-take 32 (drop 28 s) k 0 h ∙ getD-drop 28 s k 0)
-
-pub cellOf-none : (s : List ℕ) (k : ℕ) → length s ≡ stateLength → 32 ≤ k → 0 ≡ cellOf (public s) k
-cellOf-none s k long h = sym (ap (λ (xs : List ℕ). getD xs k 0) (ram-of s long) ∙ List·getD-eq-default (take 32 (drop 28 s)) 0 (simp length-take (omega arith)))
-
--- ---- the key table
--- an entry stands behind the first 65 bytes
-pub entry-at : (s : List ℕ) (b : ℕ) → getD s (65 + b) 0 ≡ getD (public s .settings .table) b 0
-entry-at s b = sym (getD-drop 65 s b 0)
 
 -- ---- putCell
 module _ (m : Machine) (k : ℕ) {b : ℕ} (read : b ≡ cellOf (m .plain) k) where

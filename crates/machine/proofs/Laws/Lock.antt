@@ -11,9 +11,7 @@ use lib.Dec.{eqb, ltb}
 use borrow.Author.Tests.{eq-eqb, ne-eqb, eqb-true, eqb-false, ltb-true, ltb-false}
 use Rattle.translation.proofs.Tests.{split, and-true}
 use Rattle.machine.proofs.Laws.Cond.{not-both}
-use Rattle.machine.specs.Lock.{endWith, opening, longest, shorter, reached, begun, keyOpens, keyLeads, positionAfter}
-use Rattle.machine.specs.View.{codeOf}
-use Rattle.machine.proofs.Laws.Code.{code-read}
+use Rattle.machine.specs.Lock.{endWith, codeTyped, longest, shorter, reached, begun, keyCompletes, keyLeads, positionAfter}
 
 module _ (code : List ℕ) where
   -- ---- endWith a beginning of the code, key by key
@@ -21,16 +19,16 @@ module _ (code : List ℕ) where
   unfolding begun
   begun-none = refl
 
-  begun-next : (k : ℕ) → k < length code → begun code (suc k) ≡ getD code k 0 ∷ begun code k
+  pub begun-next : (k : ℕ) → k < length code → begun code (suc k) ≡ getD code k 0 ∷ begun code k
   unfolding begun
   begun-next k h = ap reverse (take-suc code k 0 h) ∙ reverse-append (take k code) (getD code k 0 ∷ [])
 
-  ends-none : (keys : List ℕ) → endWith keys (take 0 code) ≡ true
+  pub ends-none : (keys : List ℕ) → endWith keys (take 0 code) ≡ true
   unfolding endWith
   ends-none keys = refl
 
   module _ (j : ℕ) (h : j < length code) where
-    ends-next : (x : ℕ) (keys : List ℕ) → endWith (x ∷ keys) (take (suc j) code) ≡ (eqb x (getD code j 0) && endWith keys (take j code))
+    pub ends-next : (x : ℕ) (keys : List ℕ) → endWith (x ∷ keys) (take (suc j) code) ≡ (eqb x (getD code j 0) && endWith keys (take j code))
     unfolding endWith begun
     ends-next x keys = rw (length-take-le (suc j) code h, length-take-le j code (omega arith), begun-next j h)
 
@@ -55,7 +53,7 @@ module _ (code : List ℕ) where
       let rest = begun-shorter q i keys (both .1) (omega arith) (omega arith) in
       simp (begun-next q (omega arith), ends-next i (omega arith), eqb-true x (getD code q 0) (both .0), rest)
 
-  begun-itself : (k : ℕ) → k ≤ length code → endWith (begun code k) (take k code) ≡ true
+  pub begun-itself : (k : ℕ) → k ≤ length code → endWith (begun code k) (take k code) ≡ true
   begun-itself zero most = ends-none (begun code zero)
   begun-itself (suc k) most =
       rw (begun-next k (omega arith), ends-next k (omega arith), eq-eqb (getD code k 0) (getD code k 0) refl, begun-itself k (omega arith))
@@ -115,8 +113,8 @@ module _ (code : List ℕ) where
     pub reached-next : (x : ℕ) → reached code (x ∷ keys) ≡ keyLeads code (reached code keys) x
     reached-next x = longest-same (x ∷ keys) _ (shorter code) (λ j h. next-alike x j (omega arith))
 
-    pub opening-next : (x : ℕ) → opening code (x ∷ keys) ≡ keyOpens code (reached code keys) x
-    opening-next x =
+    pub codeTyped-next : (x : ℕ) → codeTyped code (x ∷ keys) ≡ keyCompletes code (reached code keys) x
+    codeTyped-next x =
         subst (λ (c : List ℕ). endWith (x ∷ keys) c ≡ endWith (x ∷ begun code (reached code keys)) c) (take-length code)
         (next-alike x (length code) (omega arith))
 
@@ -139,17 +137,17 @@ module _ (code : List ℕ) where
     position-after (x ∷ keys) =
         ap (λ (n : ℕ). keyLeads code n x) (position-after keys) ∙ sym (reached-next (keys ++ begun code k) x)
 
-    pub opening-after : (x : ℕ) (keys : List ℕ) → keyOpens code (positionAfter code k keys) x ≡ opening code (x ∷ (keys ++ begun code k))
-    opening-after x keys =
-        ap (λ (n : ℕ). keyOpens code n x) (position-after keys) ∙ sym (opening-next (keys ++ begun code k) x)
+    pub codeTyped-after : (x : ℕ) (keys : List ℕ) → keyCompletes code (positionAfter code k keys) x ≡ codeTyped code (x ∷ (keys ++ begun code k))
+    codeTyped-after x keys =
+        ap (λ (n : ℕ). keyCompletes code n x) (position-after keys) ∙ sym (codeTyped-next (keys ++ begun code k) x)
 
   -- ---- one key behind a position
-  next-longer : (x k j : ℕ) → suc k < j → j ≤ length code → endWith (x ∷ begun code k) (take j code) ≡ false
+  pub next-longer : (x k j : ℕ) → suc k < j → j ≤ length code → endWith (x ∷ begun code k) (take j code) ≡ false
   next-longer x k zero h most = absurd (omega arith)
   next-longer x k (suc j) h most = simp (ends-next j most, begun-longer k j (omega arith) (omega arith), and-false)
 
   -- where the keys end with no beginning longer than k, those of at most k bytes are all
-  longest-cut : (keys : List ℕ) (k n : ℕ) → k ≤ n → ((j : ℕ) → k < j → j ≤ n → endWith keys (take j code) ≡ false) →
+  pub longest-cut : (keys : List ℕ) (k n : ℕ) → k ≤ n → ((j : ℕ) → k < j → j ≤ n → endWith keys (take j code) ≡ false) →
       longest code n keys ≡ longest code k keys
   longest-cut keys k n most none =
       let below = longest-below keys k in
@@ -158,11 +156,11 @@ module _ (code : List ℕ) where
 
   -- the whole code is the longest beginning exactly if it is one that the keys end with; else the longest is shorter
   module _ (keys : List ℕ) {k : ℕ} (isLongest : k ≡ longest code (length code) keys) where
-    pub opening-whole : k ≡ length code → opening code keys ≡ true
-    opening-whole e = subst (λ (c : List ℕ). endWith keys c ≡ true) (take-length code) (rw (sym (sym isLongest ∙ e)) (longest-ends keys (length code)))
+    pub codeTyped-whole : k ≡ length code → codeTyped code keys ≡ true
+    codeTyped-whole e = subst (λ (c : List ℕ). endWith keys c ≡ true) (take-length code) (rw (sym (sym isLongest ∙ e)) (longest-ends keys (length code)))
 
-    pub opening-part : (k ≡ length code → ⊥) → opening code keys ≡ false
-    opening-part f =
+    pub codeTyped-part : (k ≡ length code → ⊥) → codeTyped code keys ≡ false
+    codeTyped-part f =
         subst (λ (c : List ℕ). endWith keys c ≡ false) (take-length code)
         (longest-most keys (length code) (length code) (omega (arith, longest-below keys (length code))) (omega arith))
 
@@ -171,74 +169,3 @@ module _ (code : List ℕ) where
         isLongest
         ∙ longest-cut keys (shorter code) (length code) (omega arith)
         (λ j more upto. longest-most keys (length code) j (omega (arith, longest-below keys (length code))) upto)
-
--- ---- what the program finds in the state
-module _ (s : List ℕ) where
-  abbrev code : List ℕ
-  code = codeOf s
-
-  -- nothing is left
-  module _ (keys : List ℕ) (n : ℕ) (none : n ≡ 0) where
-    pub repeats-end : true ≡ endWith keys (take n code)
-    repeats-end = rw none (sym (ends-none code keys))
-
-    pub longest-end : 0 ≡ longest code n keys
-    unfolding longest
-    longest-end = rw none
-
-  -- two beginnings, the first `by` bytes longer, are compared from their ends down
-  module _ (by n : ℕ) (some : 0 < n) (most : by + n ≤ length code) where
-    repeats-next : endWith (begun code (by + n)) (take n code)
-        ≡ (eqb (getD s (12 + (by + (n - 1))) 0) (getD s (12 + (n - 1)) 0) && endWith (begun code (by + (n - 1))) (take (n - 1) code))
-    repeats-next =
-        let longer : by + n ≡ suc (by + (n - 1)) = omega arith in
-        let one : n ≡ suc (n - 1) = omega arith in
-        let within : by + (n - 1) < length code = omega arith in
-        let inside : n - 1 < length code = omega arith in
-        ap (λ (k : ℕ). endWith (begun code k) (take n code)) longer
-        ∙ ap (λ (k : ℕ). endWith (begun code (suc (by + (n - 1)))) (take k code)) one
-        ∙ rw (begun-next code _ within, ends-next code _ inside, code-read s _ within, code-read s _ inside)
-
-    pub repeats-on : getD s (12 + (n - 1)) 0 ≡ getD s (12 + (by + (n - 1))) 0 →
-        endWith (begun code (by + (n - 1))) (take (n - 1) code) ≡ endWith (begun code (by + n)) (take n code)
-    repeats-on e = sym (repeats-next ∙ rw (eq-eqb _ _ (sym e)))
-
-    pub repeats-not : (getD s (12 + (n - 1)) 0 ≡ getD s (12 + (by + (n - 1))) 0 → ⊥) → false ≡ endWith (begun code (by + n)) (take n code)
-    repeats-not f = sym (repeats-next ∙ rw (ne-eqb _ _ (λ e. f (sym e))))
-
-  -- x behind keys of which a beginning of the code is sought, from n bytes down; j is one less
-  module _ (keys : List ℕ) (x n j : ℕ) (one : n ≡ suc j) (most : n ≤ length code) where
-    longest-next : longest code n (x ∷ keys) ≡ cond (eqb x (getD s (12 + j) 0) && endWith keys (take j code)) n (longest code j (x ∷ keys))
-    unfolding longest
-    longest-next =
-        let inside : j < length code = omega arith in
-        subst (λ (k : ℕ). longest code k (x ∷ keys) ≡ cond (eqb x (getD s (12 + j) 0) && endWith keys (take j code)) k (longest code j (x ∷ keys)))
-        (sym one) (rw (ends-next code j inside, code-read s j inside))
-
-    pub longest-found : {t : Bool} → x ≡ getD s (12 + j) 0 → t ≡ endWith keys (take j code) → t ≡ true → n ≡ longest code n (x ∷ keys)
-    longest-found e isT t = sym (longest-next ∙ rw (eq-eqb _ _ e, sym isT ∙ t))
-
-    pub longest-other : (x ≡ getD s (12 + j) 0 → ⊥) → longest code j (x ∷ keys) ≡ longest code n (x ∷ keys)
-    longest-other f = sym (longest-next ∙ rw (ne-eqb _ _ f))
-
-    pub longest-shorter : {t : Bool} → t ≡ endWith keys (take j code) → t ≡ false → longest code j (x ∷ keys) ≡ longest code n (x ∷ keys)
-    longest-shorter isT t = sym (longest-next ∙ simp (sym isT ∙ t, and-false))
-
-  -- the key behind a position within the code, and behind one that is not
-  module _ (x k : ℕ) (within : k < length code) where
-    one-more : longest code (suc k) (x ∷ begun code k) ≡ longest code (length code) (x ∷ begun code k)
-    one-more = sym (longest-cut code _ (suc k) _ within (next-longer code x k))
-
-    pub reach-next : x ≡ getD s (12 + k) 0 → k + 1 ≡ longest code (length code) (x ∷ begun code k)
-    reach-next e =
-        let next : k + 1 ≡ suc k = omega arith in
-        next ∙ longest-found (begun code k) x (suc k) k refl within e (sym (begun-itself code k (omega arith))) refl ∙ one-more
-
-    pub reach-back : (x ≡ getD s (12 + k) 0 → ⊥) → longest code k (x ∷ begun code k) ≡ longest code (length code) (x ∷ begun code k)
-    reach-back f = longest-other (begun code k) x (suc k) k refl within f ∙ one-more
-
-  pub reach-past : (x k n : ℕ) → n ≡ length code → n ≤ k →
-      longest code n (x ∷ begun code n) ≡ longest code (length code) (x ∷ begun code k)
-  unfolding begun
-  reach-past x k n whole h =
-      rw (whole, take-length code, take-all k code (omega arith))

@@ -10,7 +10,7 @@ use Rattle.translation.specs.Frames.{Check, noise, check}
 use Rattle.translation.proofs.Frame.{check-noise}
 use Rattle.translation.proofs.Tests.{split}
 use Rattle.machine.specs.State.{Machine, lift}
-use Rattle.machine.specs.Frames.{keyboardFrame, mouseFrame}
+use Rattle.machine.specs.Devices.{keyboardFrame, mouseFrame}
 use Rattle.machine.specs.Events.{Event, value, refusal, accept, step, byteRead, oldMark, pulse, lines, reply, refusedReply, answer}
 use Rattle.machine.proofs.Laws.Events.{accepted-value, accept-keyboard, accept-mouse, step-accepted, step-refused, reply-accepted, reply-refused}
 

@@ -1,15 +1,16 @@
 -- Laws of the definitions in specs/SecondSet. Assumes nothing.
 use mathlib.Core.Path.{_≡_, refl, ap, sym, subst, _∙_}
-use mathlib.Core.Bool.{Bool, true, false, not}
+use mathlib.Core.Bool.{Bool, true, false, cond, not}
 use Prim.Native.Nat.{ℕ, _+_, _-_, _%_, _≤_, _<_}
 use native.Mathlib.Omega.{arith}
 use lib.Dec.{eqb, leb}
 use borrow.Author.Tests.{ne-eqb, not-true}
 use Rattle.machine.specs.State.{Public, Machine, lift}
-use Rattle.machine.specs.Lines.{within}
+use Rattle.translation.specs.Bits.{within}
+use Rattle.machine.specs.Lines.{secondSet}
 use Rattle.machine.specs.DataPort.{highLatched}
 use Rattle.machine.specs.SecondSet.{inputLineWritten, lowLinesWritten, lineWritten, permitted, outputLinesSet}
-use Rattle.machine.specs.SecondSet.{secondOnly, modePut, versionPut, singleCommand, secondCommand}
+use Rattle.machine.specs.SecondSet.{secondOnly, modeReported, versionPut, singleCommand, secondCommand}
 use Rattle.translation.proofs.Tests.{every, every-below}
 use Rattle.machine.proofs.Laws.Cond.{not-both, or-false}
 
@@ -63,7 +64,7 @@ module _ (m : Machine) (c : ℕ) where
   unfolding singleCommand
   second-C9 key = simp key
 
-  pub second-CA : c ≡ 0xCA → lift modePut m ≡ lift (singleCommand c) m
+  pub second-CA : c ≡ 0xCA → lift modeReported m ≡ lift (singleCommand c) m
   unfolding singleCommand
   second-CA key = simp key
 
@@ -127,3 +128,11 @@ module _ (m : Machine) (on : Bool) {k : ℕ} where
   line-7 h n0 n1 n2 n3 n4 n5 n6 =
       let seven : k ≡ 7 = last k (past k n0 n1 n2 n3) h n4 n5 n6 in
       simp seven
+
+-- what is done with the second set alone
+module _ (m : Machine) (c : ℕ) {second : Bool} (isSecond : second ≡ secondSet (m .plain)) where
+  pub own-second : second ≡ true → lift (secondCommand c) m ≡ lift (λ p. cond (secondSet p) (secondCommand c p) p) m
+  own-second h = simp (sym isSecond ∙ h)
+
+  pub own-first : second ≡ false → m ≡ lift (λ p. cond (secondSet p) (secondCommand c p) p) m
+  own-first h = simp (sym isSecond ∙ h)

@@ -10,9 +10,9 @@ use Rattle.machine.specs.State.{Public, Machine, fresh}
 use Rattle.machine.specs.Lines.{putCell}
 use Rattle.machine.specs.DataPort.{plainData, loadByte, writeData}
 use Rattle.machine.specs.SecondSet.{lineWritten, singleCommand, secondCommand}
-use Rattle.machine.specs.Commands.{loadCut, plainCommand, codeAsked, lockedUp, acts, writeCommand}
-use Rattle.machine.specs.Frames.{keyError, counted, try, keyed, keyedByte, soundKey}
-use Rattle.machine.specs.Frames.{keyboardFrame, mousePut, mouseFrame, timedOut}
+use Rattle.machine.specs.Commands.{loadCut, plainCommand, codeAsked, lockCommand, acts, writeCommand}
+use Rattle.machine.specs.Devices.{keyError, keyMatched, try, yieldDelivered, byteDelivered, soundKey}
+use Rattle.machine.specs.Devices.{keyboardFrame, mousePut, mouseFrame, timedOut}
 use Rattle.machine.specs.Events.{Event, accept, step}
 use Rattle.machine.specs.Run.{after}
 
@@ -82,17 +82,17 @@ module _ (m : Machine) where
   loadCut-settings = simp (of-machine, same)
 
   acts-settings : (c : ℕ) → acts c m .plain .settings ≡ m .plain .settings
-  unfolding acts codeAsked lockedUp
+  unfolding acts codeAsked lockCommand
   acts-settings c = simp (of-machine, putCell-settings, plainCommand-settings, same)
 
   try-settings : (x : ℕ) → try x m .plain .settings ≡ m .plain .settings
-  unfolding try counted
+  unfolding try keyMatched
   try-settings x = simp (of-machine, putCell-settings, same)
 
-  keyed-settings : (y : Yielded) → keyed y m .plain .settings ≡ m .plain .settings
-  unfolding keyed keyedByte
-  keyed-settings nothing = refl
-  keyed-settings (byte x) = simp (of-machine, try-settings, same)
+  yieldDelivered-settings : (y : Yielded) → yieldDelivered y m .plain .settings ≡ m .plain .settings
+  unfolding yieldDelivered byteDelivered
+  yieldDelivered-settings nothing = refl
+  yieldDelivered-settings (byte x) = simp (of-machine, try-settings, same)
 
 writeData-settings : (v : ℕ) (m : Machine) → writeData v m .plain .settings ≡ m .plain .settings
 unfolding writeData
@@ -104,7 +104,7 @@ writeCommand-settings c m = acts-settings _ _ ∙ loadCut-settings m
 
 keyboardFrame-settings : (c : Check) (m : Machine) → keyboardFrame c m .plain .settings ≡ m .plain .settings
 unfolding keyboardFrame soundKey
-keyboardFrame-settings (sound b) m = keyed-settings _ _
+keyboardFrame-settings (sound b) m = yieldDelivered-settings _ _
 keyboardFrame-settings parity m = keyError-settings _
 keyboardFrame-settings broken m = keyError-settings _
 keyboardFrame-settings noise m = refl

@@ -7,8 +7,7 @@ use lib.ListN.{length, getD, take, drop, length-append, length-drop}
 use lib.Seq.{take-append-le, drop-append-le, length-take-le, sets, sets-eq}
 use Rattle.printing.specs.Hex.{hexByte}
 use Rattle.printing.specs.Lines.{spaced, line, lines, field}
-use Rattle.machine.proofs.Laws.Lists.{take-rest, handed}
-use Rattle.printing.proofs.Laws.Parts.{handed-on}
+use Rattle.translation.proofs.Lists.{take-rest, handed, handed-on}
 
 -- ---- field
 pub length-field : (byte after : ℕ) → length (field byte after) ≡ 3

@@ -14,9 +14,8 @@ use Rattle.machine.proofs.Laws.Cond.{cond-both, or-false}
 use Rattle.machine.proofs.Laws.Run.{length-events, length-answers}
 use Rattle.printing.specs.Lines.{lines}
 use Rattle.printing.specs.Page.{header, refusedText, refusedLength, refused, answered, page, over, room, Written, Printed}
-use Rattle.machine.proofs.Laws.Lists.{handed}
+use Rattle.translation.proofs.Lists.{handed, handed-on}
 use Rattle.controller.specs.Promises.{FreshRun}
-use Rattle.printing.proofs.Laws.Parts.{handed-on}
 use Rattle.printing.proofs.Laws.Lines.{length-lines, lines-append}
 
 -- ---- refusedLength

@@ -3,7 +3,7 @@
 use borrow.Author.Needs.{needs}
 use native.Mathlib.Omega.{arith}
 use Rattle.machine.proofs.Laws.Events.{refusal-unknown}
-use Rattle.machine.proofs.Laws.Told.{told-refused, told-kind}
+use Rattle.state.proofs.Laws.Told.{told-refused, told-kind}
 use Rattle.controller.proofs.events.act.Statement.{statement}
 use Rattle.controller.proofs.events.act.Tie as tie
 

@@ -9,10 +9,10 @@ use Rattle.controller.proofs.run.run_events.Statement.{statement}
 use Rattle.controller.proofs.run.run_events.Tie as tie
 
 abbrev Inv-loop : tie.InvT-loop
-Inv-loop s₀ list answers₀ done₀ told₀ s answers done told = Ran s₀ list answers₀ s answers done told
+Inv-loop s₀ list answers₀ done₀ written₀ s answers done written = Ran s₀ list answers₀ s answers done written
 
 abbrev μ-loop : tie.MeasureT-loop
-μ-loop s₀ list answers₀ done₀ told₀ s answers done told = length list - done
+μ-loop s₀ list answers₀ done₀ written₀ s answers done written = length list - done
 
 loop-holds : tie.Need-loop-holds Inv-loop μ-loop
 loop-holds c = ran-start
@@ -46,21 +46,21 @@ run-first-requires c κs =
     let test = c .before .before .before in
     let here = test .before .loop in
     let list = test .before .before .before .before .args .list .now in
-    let fits = both-le 3 (length list - here .done) 9 (length (here .answers) - here .told) (test .loop-test .taken) in
+    let fits = both-le 3 (length list - here .done) 9 (length (here .answers) - here .written) (test .loop-test .taken) in
     (simp (length-take, length-drop) (omega (arith, fits .0)), simp (length-take, length-drop) (omega (arith, fits .1)))
 
 add-done : tie.Need-add-done Inv-loop μ-loop
 add-done c = search needs
 
-add-told : tie.Need-add-told Inv-loop μ-loop
-add-told c = search needs
+add-written : tie.Need-add-written Inv-loop μ-loop
+add-written c = search needs
 
 loop-less : tie.Need-loop-less Inv-loop μ-loop
 loop-less c =
     let test = c .before .before .before .before .before .before in
     let here = test .before .loop in
     let list = test .before .before .before .before .args .list .now in
-    let fits = both-le 3 (length list - here .done) 9 (length (here .answers) - here .told) (test .loop-test .taken) in
+    let fits = both-le 3 (length list - here .done) 9 (length (here .answers) - here .written) (test .loop-test .taken) in
     omega (arith, fits .0)
 
 loop-again : tie.Need-loop-again Inv-loop μ-loop
@@ -68,7 +68,7 @@ loop-again c =
     let test = c .before .before .before .before .before .before in
     let here = test .before .loop in
     let list = test .before .before .before .before .args .list .now in
-    let fits = both-le 3 (length list - here .done) 9 (length (here .answers) - here .told) (test .loop-test .taken) in
+    let fits = both-le 3 (length list - here .done) 9 (length (here .answers) - here .written) (test .loop-test .taken) in
     let run = c .before .before .run-first in
     ran-more (here .inv) (fits .0) (fits .1) (run .kept .1 .1 .0) (run .ensures)
 
@@ -95,7 +95,7 @@ run-events-spec =
     part-run-first-end-2
     run-first-requires
     add-done
-    add-told
+    add-written
     loop-less
     loop-again
     same-length

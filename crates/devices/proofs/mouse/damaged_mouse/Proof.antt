@@ -1,7 +1,7 @@
 -- `devices::mouse::damaged_mouse` meets its contract. The callees' rules follow one another as in the definition.
 -- Assumes nothing.
 use borrow.Author.Needs.{needs}
-use Rattle.machine.proofs.Laws.Changed.{by-two}
+use Rattle.state.proofs.Laws.Changed.{by-two}
 use Rattle.devices.proofs.mouse.damaged_mouse.Statement.{statement}
 use Rattle.devices.proofs.mouse.damaged_mouse.Tie as tie
 

@@ -3,16 +3,16 @@
 use borrow.Author.Needs.{needs}
 use mathlib.Core.Path.{refl}
 use Rattle.machine.specs.Events.{accept}
-use Rattle.machine.proofs.Laws.Changed.{by-rule}
-use Rattle.machine.proofs.Laws.Told.{met, met-accepted, met-refused}
+use Rattle.state.proofs.Laws.Changed.{by-rule}
+use Rattle.state.proofs.Laws.Told.{met, met-accepted, met-refused}
 use Rattle.devices.proofs.mouse.mouse_event.Statement.{statement}
 use Rattle.devices.proofs.mouse.mouse_event.Tie as tie
 
 mouse-refusal-requires : tie.Need-mouse-refusal-requires
 mouse-refusal-requires c κs = search needs
 
-value-requires : tie.Need-value-requires
-value-requires c κs = search needs
+word-requires : tie.Need-word-requires
+word-requires c κs = search needs
 
 judge-requires : tie.Need-judge-requires
 judge-requires c κs = search needs
@@ -37,7 +37,7 @@ mouse-event-spec =
     tie.close
     (tie.spec
     mouse-refusal-requires
-    value-requires
+    word-requires
     judge-requires
     mouse-frame-requires
     quiet-requires

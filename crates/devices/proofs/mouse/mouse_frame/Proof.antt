@@ -1,8 +1,8 @@
 -- `devices::mouse::mouse_frame` meets its contract. Each verdict is a case of the definition.
 -- Assumes nothing.
 use borrow.Author.Needs.{needs}
-use Rattle.machine.specs.Frames.{mouseFrame}
-use Rattle.machine.proofs.Laws.Changed.{by-rule, untouched}
+use Rattle.machine.specs.Devices.{mouseFrame}
+use Rattle.state.proofs.Laws.Changed.{by-rule, untouched}
 use Rattle.devices.proofs.mouse.mouse_frame.Statement.{statement}
 use Rattle.devices.proofs.mouse.mouse_frame.Tie as tie
 

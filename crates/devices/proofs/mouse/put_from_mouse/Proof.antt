@@ -1,8 +1,8 @@
 -- `devices::mouse::put_from_mouse` meets its contract. The test is the definition's own.
 -- Assumes nothing.
 use borrow.Author.Needs.{needs}
-use Rattle.machine.proofs.Laws.Changed.{by-rule, untouched}
-use Rattle.machine.proofs.Laws.Frames.{mousePut-off, mousePut-on}
+use Rattle.state.proofs.Laws.Changed.{by-rule, untouched}
+use Rattle.machine.proofs.Laws.Devices.{mousePut-off, mousePut-on}
 use Rattle.devices.proofs.mouse.put_from_mouse.Statement.{statement}
 use Rattle.devices.proofs.mouse.put_from_mouse.Tie as tie
 

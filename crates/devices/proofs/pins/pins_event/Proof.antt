@@ -4,12 +4,12 @@ use borrow.Author.Needs.{needs}
 use mathlib.Core.Path.{refl, sym, ap, _∙_}
 use Prim.Native.Nat.{ℕ}
 use Rattle.machine.specs.State.{lift}
-use Rattle.machine.specs.Frames.{pinned}
+use Rattle.machine.specs.Devices.{pinned}
 use Rattle.machine.specs.Events.{event, accept}
-use Rattle.machine.specs.View.{public, view}
+use Rattle.state.specs.View.{public, view}
 use Rattle.machine.proofs.Laws.Events.{value-byte}
-use Rattle.machine.proofs.Laws.Changed.{by-rule}
-use Rattle.machine.proofs.Laws.Told.{met, met-accepted, met-refused}
+use Rattle.state.proofs.Laws.Changed.{by-rule}
+use Rattle.state.proofs.Laws.Told.{met, met-accepted, met-refused}
 use Rattle.devices.proofs.pins.pins_event.Statement.{statement}
 use Rattle.devices.proofs.pins.pins_event.Tie as tie
 

@@ -1,7 +1,7 @@
 -- `devices::pins::set_pins` meets its contract. The store is the law's.
 -- Assumes nothing.
 use borrow.Author.Needs.{needs}
-use Rattle.machine.proofs.Laws.Changed.{stored-pins}
+use Rattle.state.proofs.Laws.Changed.{stored-pins}
 use Rattle.devices.proofs.pins.set_pins.Statement.{statement}
 use Rattle.devices.proofs.pins.set_pins.Tie as tie
 

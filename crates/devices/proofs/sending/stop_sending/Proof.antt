@@ -1,7 +1,7 @@
 -- `devices::sending::stop_sending` meets its contract. The stores are the law's.
 -- Assumes nothing.
 use borrow.Author.Needs.{needs}
-use Rattle.machine.proofs.Laws.Changed.{stored-sending}
+use Rattle.state.proofs.Laws.Changed.{stored-sending}
 use Rattle.devices.proofs.sending.stop_sending.Statement.{statement}
 use Rattle.devices.proofs.sending.stop_sending.Tie as tie
 

@@ -1,7 +1,7 @@
 -- `devices::sending::taken` meets its contract. The callees' rules follow one another as in the definition.
 -- Assumes nothing.
 use borrow.Author.Needs.{needs}
-use Rattle.machine.proofs.Laws.Changed.{by-two}
+use Rattle.state.proofs.Laws.Changed.{by-two}
 use Rattle.devices.proofs.sending.taken.Statement.{statement}
 use Rattle.devices.proofs.sending.taken.Tie as tie
 

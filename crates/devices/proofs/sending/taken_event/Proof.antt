@@ -3,8 +3,8 @@
 use borrow.Author.Needs.{needs}
 use mathlib.Core.Path.{refl}
 use Rattle.machine.specs.Events.{accept}
-use Rattle.machine.proofs.Laws.Changed.{by-rule}
-use Rattle.machine.proofs.Laws.Told.{met, met-accepted, met-refused}
+use Rattle.state.proofs.Laws.Changed.{by-rule}
+use Rattle.state.proofs.Laws.Told.{met, met-accepted, met-refused}
 use Rattle.devices.proofs.sending.taken_event.Statement.{statement}
 use Rattle.devices.proofs.sending.taken_event.Tie as tie
 

@@ -1,8 +1,8 @@
 -- `devices::sending::timed_out` meets its contract. The device that was sent to picks the source, and the callees' rules follow one another.
 -- Assumes nothing.
 use borrow.Author.Needs.{needs}
-use Rattle.machine.proofs.Laws.Changed.{by-three}
-use Rattle.machine.proofs.Laws.Frames.{timedOut-mouse, timedOut-keyboard}
+use Rattle.state.proofs.Laws.Changed.{by-three}
+use Rattle.machine.proofs.Laws.Devices.{timedOut-mouse, timedOut-keyboard}
 use Rattle.devices.proofs.sending.timed_out.Statement.{statement}
 use Rattle.devices.proofs.sending.timed_out.Tie as tie
 

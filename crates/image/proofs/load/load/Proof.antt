@@ -2,7 +2,7 @@
 -- Assumes nothing.
 use borrow.Author.Needs.{needs}
 use native.Mathlib.Omega.{arith}
-use Rattle.image.proofs.Laws.Load.{some-long}
+use Rattle.image_bytes.proofs.Laws.Find.{some-long}
 use Rattle.image.proofs.Laws.Promises.{load-none, load-broken, load-stored}
 use Rattle.image.proofs.load.load.Statement.{statement}
 use Rattle.image.proofs.load.load.Tie as tie
@@ -13,13 +13,20 @@ find-requires c κs = search needs
 returns : tie.Need-returns
 returns c = load-none (c .before .find .ensures) (c .if1 .taken)
 
+slice-aggregate-copy : tie.Need-slice-aggregate-copy
+slice-aggregate-copy c = search needs
+
+copy-requires : tie.Need-copy-requires
+copy-requires c κs = omega (arith, some-long _ (c .before .before .find .ensures) (c .before .if1 .left))
+
 body-kept-requires : tie.Need-body-kept-requires
-body-kept-requires c κs = some-long _ (c .before .find .ensures) (c .if1 .left)
+body-kept-requires c κs = search needs
 
 returns-2 : tie.Need-returns-2
 returns-2 c =
-    let some = c .before .before in
-    load-broken (some .before .find .ensures) (some .if1 .left) (c .before .body-kept .ensures) (c .if2 .taken)
+    let taken = c .before .before .before .before in
+    let some = taken .before .before in
+    load-broken (some .before .find .ensures) (some .if1 .left) (taken .copy .ensures .1) (c .before .body-kept .ensures) (c .if2 .taken)
 
 ordinary-requires : tie.Need-ordinary-requires
 ordinary-requires c κs = search needs
@@ -27,22 +34,25 @@ ordinary-requires c κs = search needs
 start-requires : tie.Need-start-requires
 start-requires c κs = search needs
 
-copy-in-requires : tie.Need-copy-in-requires
-copy-in-requires c κs =
-    let some = c .before .before .before .before .before in
-    omega (arith, some-long _ (some .before .find .ensures) (some .if1 .left))
+slice-aggregate-copy-2 : tie.Need-slice-aggregate-copy-2
+slice-aggregate-copy-2 c = search needs
+
+copy-requires-2 : tie.Need-copy-requires-2
+copy-requires-2 c κs = search needs
 
 returns-3 : tie.Need-returns-3
 returns-3 c =
-    let started = c .before .before in
+    let started = c .before .before .before in
     let kept = started .before .before in
-    let some = kept .before .before in
+    let taken = kept .before .before .before .before in
+    let some = taken .before .before in
     let found = some .before in
-    load-stored (found .find .ensures) (some .if1 .left) (λ k. found .before .shared-slice-known .given k .fits) (kept .before .body-kept .ensures)
+    load-stored (found .find .ensures) (some .if1 .left) (taken .copy .ensures .1) (λ k. found .before .shared-slice-known .given k .fits)
+    (kept .before .body-kept .ensures)
     (kept .if2 .left)
     (started .before .ordinary .ensures)
     (started .start .ensures .0)
-    (c .copy-in .ensures)
+    (c .copy2 .ensures .1)
 
 pub load-spec : {M : Type 1} → statement M
 load-spec =
@@ -50,9 +60,12 @@ load-spec =
     (tie.spec
     find-requires
     returns
+    slice-aggregate-copy
+    copy-requires
     body-kept-requires
     returns-2
     ordinary-requires
     start-requires
-    copy-in-requires
+    slice-aggregate-copy-2
+    copy-requires-2
     returns-3)

@@ -17,14 +17,23 @@ slice-aggregate-body c = simp length-take (omega arith)
 trailer-requires : tie.Need-trailer-requires
 trailer-requires c κs = search needs
 
-copy-in-requires : tie.Need-copy-in-requires
-copy-in-requires c κs = simp length-take (omega (arith, c .before .before .before .before .if1 .left))
+copy-requires : tie.Need-copy-requires
+copy-requires c κs = simp length-take (omega (arith, c .before .before .before .before .if1 .left))
 
-slice-aggregate-copy-in : tie.Need-slice-aggregate-copy-in
-slice-aggregate-copy-in c = search needs
+slice-aggregate-copy : tie.Need-slice-aggregate-copy
+slice-aggregate-copy c = search needs
 
-copy-in-requires-2 : tie.Need-copy-in-requires-2
-copy-in-requires-2 c κs = search needs
+sub-copy : tie.Need-sub-copy
+sub-copy c = search needs
+
+part-copy-start : tie.Need-part-copy-start
+part-copy-start c = search needs
+
+part-copy-end : tie.Need-part-copy-end
+part-copy-end c = search needs
+
+copy-requires-2 : tie.Need-copy-requires-2
+copy-requires-2 c κs = search needs
 
 same-length : tie.Need-same-length
 same-length c = search needs
@@ -35,7 +44,7 @@ returns-2 c =
     let first = second .before .before .before .before .before in
     let sealed = first .before .before in
     let start = sealed .before .before in
-    saved-whole (start .bytes .given .0) (start .before .if1 .left) refl (sealed .trailer .ensures) (first .copy-in .ensures) (second .copy-in2 .ensures)
+    saved-whole (start .state .given .0) (start .before .if1 .left) refl (sealed .trailer .ensures) (first .copy .ensures .1) (second .copy2 .ensures .1)
 
 pub save-spec : {M : Type 1} → statement M
 save-spec =
@@ -44,8 +53,11 @@ save-spec =
     returns
     slice-aggregate-body
     trailer-requires
-    copy-in-requires
-    slice-aggregate-copy-in
-    copy-in-requires-2
+    copy-requires
+    slice-aggregate-copy
+    sub-copy
+    part-copy-start
+    part-copy-end
+    copy-requires-2
     same-length
     returns-2)

@@ -6,8 +6,8 @@ use mathlib.Core.List.{_∷_}
 use native.Mathlib.Omega.{arith}
 use borrow.Author.Needs.{needs}
 use Rattle.machine.specs.Lock.{longest, begun}
-use Rattle.machine.specs.View.{codeOf}
-use Rattle.machine.proofs.Laws.Lock.{longest-end, longest-found, longest-other, longest-shorter}
+use Rattle.state.specs.View.{codeOf}
+use Rattle.state.proofs.Laws.Lock.{longest-end, longest-found, longest-other, longest-shorter}
 use Rattle.lock_code.proofs.lock.fall_back.Statement.{statement}
 use Rattle.lock_code.proofs.lock.fall_back.Tie as tie
 

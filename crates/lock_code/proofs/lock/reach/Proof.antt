@@ -3,7 +3,7 @@
 use mathlib.Core.Path.{_∙_}
 use native.Mathlib.Omega.{arith}
 use borrow.Author.Needs.{needs}
-use Rattle.machine.proofs.Laws.Lock.{reach-next, reach-back, reach-past}
+use Rattle.state.proofs.Laws.Lock.{reach-next, reach-back, reach-past}
 use Rattle.lock_code.proofs.lock.reach.Statement.{statement}
 use Rattle.lock_code.proofs.lock.reach.Tie as tie
 

@@ -6,8 +6,8 @@ use native.Mathlib.Omega.{arith}
 use lib.ListN.{take}
 use borrow.Author.Needs.{needs}
 use Rattle.machine.specs.Lock.{endWith, begun}
-use Rattle.machine.specs.View.{codeOf}
-use Rattle.machine.proofs.Laws.Lock.{repeats-end, repeats-on, repeats-not}
+use Rattle.state.specs.View.{codeOf}
+use Rattle.state.proofs.Laws.Lock.{repeats-end, repeats-on, repeats-not}
 use Rattle.lock_code.proofs.lock.repeats.Statement.{statement}
 use Rattle.lock_code.proofs.lock.repeats.Tie as tie
 

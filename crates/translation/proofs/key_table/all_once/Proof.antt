@@ -7,14 +7,14 @@ use mathlib.Core.List.{List}
 use native.Mathlib.Omega.{arith}
 use borrow.Author.Needs.{needs}
 use lib.ListN.{getD}
-use Rattle.translation.specs.KeyTable.{from, count, eachOnce}
+use Rattle.translation.specs.KeyTable.{numbersFrom, occurrences, eachOnce}
 use Rattle.translation.proofs.KeyTable.{once-on, once-not}
 use Rattle.translation.proofs.key_table.all_once.Statement.{statement}
 use Rattle.translation.proofs.key_table.all_once.Tie as tie
 
 abbrev Whole : List ℕ → ℕ → Type 0
 Whole seen v =
-    (xs : List ℕ) → ((w : ℕ) → w < 256 → getD seen w 0 ≡ count w xs) → eachOnce (from 1 0x7F) xs ≡ eachOnce (from v (128 - v)) xs
+    (xs : List ℕ) → ((w : ℕ) → w < 256 → getD seen w 0 ≡ occurrences w xs) → eachOnce (numbersFrom 1 0x7F) xs ≡ eachOnce (numbersFrom v (128 - v)) xs
 
 abbrev Inv-loop : tie.InvT-loop
 Inv-loop seen v₀ v = (1 ≤ v) × (v ≤ 128) × Whole seen v
@@ -34,7 +34,7 @@ returns c =
     let left : 128 - here .v ≡ suc (127 - here .v) = omega (arith, here .inv .1) in
     λ xs counted.
     sym
-    (here .inv .2 xs counted ∙ ap (λ (n : ℕ). eachOnce (from (here .v) n) xs) left
+    (here .inv .2 xs counted ∙ ap (λ (n : ℕ). eachOnce (numbersFrom (here .v) n) xs) left
     ∙ once-not (here .v) (127 - here .v) xs (λ one. c .if1 .taken (counted (here .v) (omega (arith, here .inv .1)) ∙ one)))
 
 add-v : tie.Need-add-v Inv-loop μ-loop
@@ -53,16 +53,16 @@ loop-again c =
       omega arith,
       omega arith,
       λ xs counted.
-          here .inv .2 xs counted ∙ ap (λ (n : ℕ). eachOnce (from v n) xs) left
+          here .inv .2 xs counted ∙ ap (λ (n : ℕ). eachOnce (numbersFrom v n) xs) left
           ∙ once-on v (127 - v) xs (sym (counted v (omega (arith, here .inv .1))) ∙ c .if1 .left)
-          ∙ ap₂ (λ (w n : ℕ). eachOnce (from w n) xs) next fewer,
+          ∙ ap₂ (λ (w n : ℕ). eachOnce (numbersFrom w n) xs) next fewer,
     )
 
 returns-2 : tie.Need-returns-2 Inv-loop μ-loop
 returns-2 c =
     let here = c .before .loop in
     let none : 128 - here .v ≡ 0 = omega arith in
-    λ xs counted. sym (here .inv .2 xs counted ∙ ap (λ (n : ℕ). eachOnce (from (here .v) n) xs) none)
+    λ xs counted. sym (here .inv .2 xs counted ∙ ap (λ (n : ℕ). eachOnce (numbersFrom (here .v) n) xs) none)
 
 pub all-once-spec : {M : Type 1} → statement M
 all-once-spec =

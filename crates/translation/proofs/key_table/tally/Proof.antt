@@ -7,7 +7,7 @@ use borrow.Author.Needs.{needs}
 use lib.ListN.{length, getD, set, take, drop, length-drop}
 use lib.Seq.{getD-drop}
 use denote.Ref.{now}
-use Rattle.translation.specs.KeyTable.{count}
+use Rattle.translation.specs.KeyTable.{occurrences}
 use Rattle.translation.proofs.KeyTable.{Tallied, tallied-none, tallied-next, tallied-most}
 use Rattle.translation.proofs.key_table.tally.Statement.{statement}
 use Rattle.translation.proofs.key_table.tally.Tie as tie
@@ -60,7 +60,7 @@ returns : tie.Need-returns Inv-loop μ-loop
 returns c =
     let here = c .before .loop in
     let all : here .i - 1 ≡ 0x7F = omega arith in
-    λ v below. here .inv .2 .times v below ∙ ap (λ (k : ℕ). count v (take k (drop 1 (now (c .before .before .args .table))))) all
+    λ v below. here .inv .2 .times v below ∙ ap (λ (k : ℕ). occurrences v (take k (drop 1 (now (c .before .before .args .table))))) all
 
 pub tally-spec : {M : Type 1} → statement M
 tally-spec =

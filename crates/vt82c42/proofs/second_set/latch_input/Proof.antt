@@ -1,7 +1,7 @@
 -- `vt82c42::second_set::latch_input` meets its contract. The test picks the case of the definition.
 -- Assumes nothing.
 use borrow.Author.Needs.{needs}
-use Rattle.machine.proofs.Laws.Changed.{by-rule}
+use Rattle.state.proofs.Laws.Changed.{by-rule}
 use Rattle.vt82c42.proofs.second_set.latch_input.Statement.{statement}
 use Rattle.vt82c42.proofs.second_set.latch_input.Tie as tie
 

@@ -1,7 +1,7 @@
 -- `vt82c42::second_set::latch_inputs` meets its contract. The store is the law's.
 -- Assumes nothing.
 use borrow.Author.Needs.{needs}
-use Rattle.machine.proofs.Laws.Changed.{stored-inputLatches}
+use Rattle.state.proofs.Laws.Changed.{stored-inputLatches}
 use Rattle.vt82c42.proofs.second_set.latch_inputs.Statement.{statement}
 use Rattle.vt82c42.proofs.second_set.latch_inputs.Tie as tie
 

@@ -2,7 +2,7 @@
 -- Assumes nothing.
 use mathlib.Core.Path.{refl}
 use borrow.Author.Needs.{needs}
-use Rattle.machine.proofs.Laws.Changed.{by-rule, stored-highLatches}
+use Rattle.state.proofs.Laws.Changed.{by-rule, stored-highLatches}
 use Rattle.vt82c42.proofs.second_set.latch_p22.Statement.{statement}
 use Rattle.vt82c42.proofs.second_set.latch_p22.Tie as tie
 

@@ -1,7 +1,7 @@
 -- `vt82c42::second_set::permit` meets its contract. The store is the law's.
 -- Assumes nothing.
 use borrow.Author.Needs.{needs}
-use Rattle.machine.proofs.Laws.Changed.{stored-permitted}
+use Rattle.state.proofs.Laws.Changed.{stored-permitted}
 use Rattle.vt82c42.proofs.second_set.permit.Statement.{statement}
 use Rattle.vt82c42.proofs.second_set.permit.Tie as tie
 

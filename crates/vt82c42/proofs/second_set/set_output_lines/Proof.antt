@@ -2,7 +2,7 @@
 -- Assumes nothing.
 use mathlib.Core.Path.{refl}
 use borrow.Author.Needs.{needs}
-use Rattle.machine.proofs.Laws.Changed.{by-rule, stored-outputLatches}
+use Rattle.state.proofs.Laws.Changed.{by-rule, stored-outputLatches}
 use Rattle.vt82c42.proofs.second_set.set_output_lines.Statement.{statement}
 use Rattle.vt82c42.proofs.second_set.set_output_lines.Tie as tie
 

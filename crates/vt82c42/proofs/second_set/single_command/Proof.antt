@@ -1,7 +1,7 @@
 -- `vt82c42::second_set::single_command` meets its contract. Each arm is a case of the definition, which computes once the command is known.
 -- Assumes nothing.
 use borrow.Author.Needs.{needs}
-use Rattle.machine.proofs.Laws.Changed.{by-rule, untouched}
+use Rattle.state.proofs.Laws.Changed.{by-rule, untouched}
 use Rattle.machine.proofs.Laws.SecondSet.{second-A1, second-AF, second-C8, second-C9, second-CA, second-other}
 use Rattle.vt82c42.proofs.second_set.single_command.Statement.{statement}
 use Rattle.vt82c42.proofs.second_set.single_command.Tie as tie
@@ -18,8 +18,8 @@ permit-requires c κs = search needs
 permit-requires-2 : tie.Need-permit-requires-2
 permit-requires-2 c κs = search needs
 
-put-mode-requires : tie.Need-put-mode-requires
-put-mode-requires c κs = search needs
+report-mode-requires : tie.Need-report-mode-requires
+report-mode-requires c κs = search needs
 
 returns : tie.Need-returns
 returns c = search (by-rule, second-A1)
@@ -47,7 +47,7 @@ single-command-spec =
     put-version-requires-2
     permit-requires
     permit-requires-2
-    put-mode-requires
+    report-mode-requires
     returns
     returns-2
     returns-3

@@ -1,7 +1,7 @@
 -- `vt82c42::second_set::write_line` meets its contract. Each arm is a case of the definition, by the low three bits.
 -- Assumes nothing.
 use borrow.Author.Needs.{needs}
-use Rattle.machine.proofs.Laws.Changed.{by-rule}
+use Rattle.state.proofs.Laws.Changed.{by-rule}
 use Rattle.machine.proofs.Laws.SecondSet.{line-0, line-1, line-2, line-3, line-4, line-5, line-6, line-7, low-three}
 use Rattle.vt82c42.proofs.second_set.write_line.Statement.{statement}
 use Rattle.vt82c42.proofs.second_set.write_line.Tie as tie

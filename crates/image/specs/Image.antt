@@ -1,0 +1,10 @@
+-- "Saved image": the image of a machine.
+use Prim.Native.Nat.{ℕ}
+use mathlib.Core.List.{List}
+use Rattle.machine.specs.State.{Machine}
+use Rattle.state.specs.View.{body}
+use Rattle.image_bytes.specs.Layout.{sealed}
+
+-- The body is machine/specs/View's table; edition 1 has a trailer of that number behind it.
+unfoldable pub image : Machine → List ℕ
+image m = sealed 1 (body m)

@@ -1,0 +1,62 @@
+// The image at the end of a caller's bytes.
+use crate::layout::BODY;
+use crate::layout::EDITION;
+use crate::layout::IMAGE;
+use crate::layout::TRAILER;
+use crate::sum::word_sum;
+use translation::bits::word;
+ghost use mathlib.Core.Path.{_≡_};
+ghost use Prim.Native.Nat.{_+_, _≤_};
+ghost use lib.ListN.{length, drop};
+ghost use Rattle.image_bytes.specs.Find as spec;
+
+// The mark of a trailer that starts at `at`.
+fn marked(bytes: &[u8], at: usize) -> bool
+    requires { ⌜ at + 8 ≤ length (now bytes) ⌝ }
+    ensures { λ r. ⌜ r ≡ spec.marked (drop at (now (bytes .entry))) ⌝ }
+{
+    (bytes[at + 5] == 0x4B) & ((bytes[at + 6] == 0x42) & (bytes[at + 7] == 0x43))
+}
+
+// Whether the bytes end in an image of this edition, whose body has `size` bytes.
+fn ends(bytes: &[u8], edition: u8, size: usize) -> bool
+    ensures { λ r. ⌜ r ≡ spec.ends edition size (now (bytes .entry)) ⌝ }
+{
+    let n = bytes.len();
+    if n < TRAILER {
+        return false;
+    }
+    let at = n - TRAILER;
+    if at < size {
+        return false;
+    }
+    let start = at - size;
+    let distance = word(bytes[at], bytes[at + 1]) as usize;
+    let stored = word(bytes[at + 2], bytes[at + 3]);
+    let total = word_sum(&bytes[start..at]);
+    marked(bytes, at) & ((bytes[at + 4] == edition) & ((distance == size) & (stored == total)))
+}
+
+// The body that the trailer points back to, as a part of the caller's bytes; an empty part if check 10 refuses them.
+pub fn find(bytes: &[u8]) -> &[u8]
+    ensures { λ r. ⌜ now r ≡ spec.found (now (bytes .entry)) ⌝ }
+{
+    if !ends(bytes, EDITION, BODY) {
+        return &bytes[..0];
+    }
+    let at = bytes.len() - TRAILER;
+    let distance = word(bytes[at], bytes[at + 1]) as usize;
+    let start = at - distance;
+    &bytes[start..at]
+}
+
+// Where that body starts, or the length of the bytes if check 10 refuses them.
+pub fn body_start(bytes: &[u8]) -> usize
+    ensures { λ r. ⌜ r ≡ spec.bodyStart (now (bytes .entry)) ⌝ }
+{
+    let body = find(bytes);
+    if body.len() == 0 {
+        return bytes.len();
+    }
+    bytes.len() - IMAGE
+}

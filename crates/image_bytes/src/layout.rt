@@ -1,0 +1,31 @@
+// What stands around a body in an image: the trailer, and how long the parts are.
+use crate::sum::word_sum;
+ghost use mathlib.Core.Path.{_≡_};
+ghost use Rattle.image_bytes.specs.Layout as layout;
+
+// How many bytes a body, a trailer and an image of edition 1 have.
+pub const BODY: usize = 60;
+
+pub const TRAILER: usize = 8;
+
+pub const IMAGE: usize = 68;
+
+pub const EDITION: u8 = 1;
+
+// The trailer of a body.
+pub fn trailer(edition: u8, body: &[u8]) -> [u8; 8]
+    ensures { λ r. ⌜ r ≡ layout.trailer edition (now (body .entry)) ⌝ }
+{
+    let distance = body.len();
+    let total = word_sum(body);
+    [
+        (distance % 256) as u8,
+        (distance / 256 % 256) as u8,
+        (total % 256) as u8,
+        (total / 256 % 256) as u8,
+        edition,
+        0x4B,
+        0x42,
+        0x43,
+    ]
+}

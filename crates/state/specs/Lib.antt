@@ -1,0 +1,4 @@
+pub mod Flags
+pub mod View
+pub mod Changed
+pub mod Told

@@ -1,0 +1,99 @@
+// The controller's state: bytes that a run changes in place. The first sixty are those of a saved image's body; the settings and what AT mode
+// and the second command set add stand behind them, the key table last.
+use crate::settings::Settings;
+use crate::settings::options_of;
+use translation::key_table::Table;
+ghost use mathlib.Core.Path.{_≡_};
+ghost use Prim.Native.Nat.{_≤_};
+ghost use mathlib.Core.List.{_++_};
+ghost use lib.ListN.{length, take};
+ghost use Rattle.machine.specs.State.{fresh};
+ghost use Rattle.state.specs.View.{stateLength, stateOf, view, named};
+
+pub type State = [u8; 321];
+
+// The output byte, which the host reads at port 60h.
+pub const OUTPUT: usize = 0;
+
+// Seven flags, a bit each.
+pub const FLAGS: usize = 1;
+
+// Input port pins, and the latches of P20 and P21 in bits 0 and 1.
+pub const PINS: usize = 2;
+
+pub const LATCHES: usize = 3;
+
+// The pending code, the cell of code 2, and the status overlay with its nibble.
+pub const PENDING: usize = 4;
+
+pub const CELL: usize = 5;
+
+pub const OVERLAY: usize = 6;
+
+pub const NIBBLE: usize = 7;
+
+// The byte being sent: to nobody (0), the keyboard (1) or the mouse (2).
+pub const SENT_TO: usize = 8;
+
+pub const SENT: usize = 9;
+
+// How long the lock code is, how many of its first bytes the keys typed end with, and its bytes.
+pub const LENGTH: usize = 10;
+
+pub const POSITION: usize = 11;
+
+pub const CODE: usize = 12;
+
+// The RAM; its cell 0 is the mode byte.
+pub const RAM: usize = 28;
+
+pub const MODE: usize = 28;
+
+// The options of the start, which no event changes: mouse lock in bit 0, AT mode in bit 1, the second command set in bit 2. Bit 3 is 1 while D1h
+// may write P22 and P23 with that set.
+pub const OPTIONS: usize = 60;
+
+// The latches of P10-P15 in bits 0-5.
+pub const INPUT_LATCHES: usize = 61;
+
+// The latches of P22, P23 and P25 in bits 0, 1 and 3.
+pub const HIGH_LATCHES: usize = 62;
+
+// The transmit time-out in bit 0.
+pub const TTIM: usize = 63;
+
+// The version byte, which no event changes.
+pub const VERSION: usize = 64;
+
+// The key table, which no event changes.
+pub const TABLE: usize = 65;
+
+// Tells the proofs the length that the type has, which they cannot see for an array behind a reference. It compiles to nothing.
+pub fn sized(s: State)
+    ensures { λ _. ⌜ length s ≡ stateLength ⌝ }
+{}
+
+// The state with this key table.
+fn with_table(s: State, table: Table) -> State
+    ensures { λ r. ⌜ r ≡ take 65 s ++ table ⌝ }
+{
+    let mut tabled = s;
+    bytes::copy(&table, &mut tabled[TABLE..]);
+    tabled
+}
+
+// A controller after power-on.
+pub fn start(settings: Settings) -> State
+    ensures { λ r. ⌜ (r ≡ stateOf (fresh (named settings))) × (view r ≡ fresh (named settings)) ⌝ }
+{
+    let mut s = [0u8; 321];
+    s[PINS] = 0xFF;
+    s[LATCHES] = 3;
+    s[MODE] = 0x70;
+    s[OPTIONS] = options_of(settings);
+    s[INPUT_LATCHES] = 0x3F;
+    s[HIGH_LATCHES] = 3;
+    s[VERSION] = settings.version;
+    let table = settings.table;
+    with_table(s, table)
+}

@@ -1,0 +1,57 @@
+-- `vectors::cases::repeat` is safe and ends: the index starts at n and goes up to the list's length.
+-- Assumes nothing.
+use Prim.Native.Nat.{_≤_, _-_}
+use mathlib.Core.Path.{_≡_}
+use borrow.Author.Needs.{needs}
+use lib.ListN.{length}
+use Rattle.vectors.proofs.cases.repeat.Statement.{statement}
+use Rattle.vectors.proofs.cases.repeat.Tie as tie
+
+abbrev Inv-loop : tie.InvT-loop
+Inv-loop list₀ n i₀ list i = (n ≤ i) × (length list ≡ length list₀)
+
+abbrev μ-loop : tie.MeasureT-loop
+μ-loop list₀ n i₀ list i = length list₀ - i
+
+loop-holds : tie.Need-loop-holds Inv-loop μ-loop
+loop-holds c = search needs
+
+sub-list : tie.Need-sub-list Inv-loop μ-loop
+sub-list c = search needs
+
+slice-read-list : tie.Need-slice-read-list Inv-loop μ-loop
+slice-read-list c = search needs
+
+slice-write-list : tie.Need-slice-write-list Inv-loop μ-loop
+slice-write-list c = search needs
+
+add-i : tie.Need-add-i Inv-loop μ-loop
+add-i c = search needs
+
+loop-less : tie.Need-loop-less Inv-loop μ-loop
+loop-less c = search needs
+
+loop-again : tie.Need-loop-again Inv-loop μ-loop
+loop-again c = search needs
+
+same-length : tie.Need-same-length Inv-loop μ-loop
+same-length c = search needs
+
+returns : tie.Need-returns Inv-loop μ-loop
+returns c = search needs
+
+pub repeat-spec : {M : Type 1} → statement M
+repeat-spec =
+    tie.close
+    (tie.spec
+    Inv-loop
+    μ-loop
+    loop-holds
+    sub-list
+    slice-read-list
+    slice-write-list
+    add-i
+    loop-less
+    loop-again
+    same-length
+    returns)
