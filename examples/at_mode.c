@@ -87,7 +87,7 @@ static void make_errors(struct pair *pair)
 /* AT mode has no mouse and no lock code. */
 static void leave_out(struct pair *pair)
 {
-    printf("-- what AT mode has not\n");
+    printf("-- what AT mode does not have\n");
     compare(pair, "the mouse sends 08", CALUGNID_MOUSE_FRAME, calugnid_frame(0x08));
     command(pair, "A9, the mouse's interface", 0xA9);
     command(pair, "A4, is there a lock code", 0xA4);

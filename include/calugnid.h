@@ -1,18 +1,15 @@
 /* The 8042 keyboard controller model of the frost panel, for C and C++.
- * Link target/staticlib/libpanel.a, which `rt staticlib panel` builds.
+ * Link target/staticlib/libcalugnid.a, which `rt staticlib calugnid` builds.
  *
  * A controller is a state of CALUGNID_STATE_BYTES bytes that the caller keeps
  * and lends to each call. The library has no memory of its own, allocates
  * nothing and prints nothing. Make a state by calugnid_start or calugnid_load
  * and change it by calls only. On any other 321 bytes a call still ends and
- * stays inside what it is lent, but its answers promise nothing.
+ * stays inside what it is lent, but its answers need not be a controller's.
  *
- * Settings, such as mouse lock, AT mode, the command set, the version byte and
- * the key table, are named at the start and stand in the state. No event changes
- * them. An image of edition 1 has no room for them, nor for what AT mode and the
- * second command set add: a save leaves them out, and a load gives the ordinary
- * settings, which are those of PS/2 mode with the first command set, the version
- * byte 0 and the built-in key table.
+ * The settings are chosen at the start and kept in the state. No event changes
+ * them. An image of edition 1 has no room for them: a save leaves them out, and a
+ * load gives the ordinary settings.
  *
  * What a caller owes:
  * - Pointers to valid memory of the size named, not null even where a length
@@ -29,14 +26,14 @@
  *   frame is fed: each event writes all nine bytes.
  * - A device keeps its frame until calugnid_refusal says 0 for it.
  * - A load gives the ordinary settings, and no call changes the settings of a
- *   controller that runs. A board that must not lose them does not load.
+ *   running controller. A board that must keep its settings must not load.
  * - A frame that mouse lock keeps back is lost: the refusal is 0, so the mouse
  *   does not send it again. This holds for replies of the mouse too.
  * - A frame with a wrong start bit is noise. Feed it or drop it: the event
  *   changes nothing, refused or not, and the host sees nothing of it.
- * - A lock closed by A6h opens at the key after which the last keys counted, as
- *   many as the lock code is long, are the code, whatever was typed before. A
- *   keyboard frame that is broken or has wrong parity starts the count afresh.
+ * - A lock closed by A6h opens as soon as the keys counted end with the lock code,
+ *   whatever was typed before. A keyboard frame that is broken or has wrong parity
+ *   starts the count again.
  */
 #ifndef CALUGNID_H
 #define CALUGNID_H
@@ -60,33 +57,10 @@ enum {
     CALUGNID_LIST_MOST = 21000  /* the longest list */
 };
 
-/* Settings: the bits of `options`. Bits without a name here are not looked at.
- * Later editions of the library may use them, so a caller leaves them 0.
- *
- * With mouse lock, while pin 7 of P1 is 0, a mouse frame is refused or accepted
- * and changes the error bits as ever, but the host gets neither its byte nor
- * the FFh of a damaged frame. The inhibit override, bit 3 of the command byte,
- * is for the keyboard alone. The host still gets FEh for a byte to the mouse
- * that timed out.
- *
- * AT mode is the mode of PCs older than the PS/2. There is no mouse: its frames
- * are refused by 12. Commands A4h-A9h, C1h, C2h and D2h-D4h do nothing, so
- * there is no lock code either. D1h writes bits 0-3 and 5 of P2, F0h-FFh pulse
- * bits 0-3, and E0h puts 1 in bit 0 and keyboard not off in bit 1. Status and
- * P2 have other bits, see below.
- *
- * The second command set is that of the VT82C42, in either mode. P10-P15 have
- * latches then, and such a line reads 1 exactly if its pin and its latch are 1.
- * - 90h-9Fh write their low four bits to P13-P10. B0h-B3h, B6h and B7h write 0,
- *   B8h-BBh, BEh and BFh write 1, to P10-P13, P14 and P15; B4h, B5h, BCh and BDh
- *   do so for P22 and P23.
- * - E1h-EFh set P23-P21 from bits 3-1. C8h lets D1h write P22 and P23, C9h
- *   forbids it, as a start does. P22 and P23 show on P2 in AT mode alone.
- * - A1h and AFh put the version byte that the start was given, which may be any;
- *   CAh puts 1 in PS/2 mode and 0 in AT mode.
- * - C1h and C2h show P11-P13 and P15-P17 in status bits 5-7; bit 4 remains pin 7.
- * - A4h puts F1h, and A5h and A6h do nothing, so there is no lock code.
- * With the first set the version byte is kept in the state and never shows. */
+/* Settings: the bits of `options`. docs/DATASHEET.md, "Start settings", says what
+ * each changes. Bits without a name here are not looked at; a caller leaves them
+ * 0, since later editions of the library may use them. With the first command set
+ * the version byte is kept in the state and never shows. */
 enum {
     CALUGNID_ORDINARY = 0,      /* none of the settings below */
     CALUGNID_MOUSE_LOCK = 0x01, /* the key switch keeps the mouse back too */
@@ -139,7 +113,7 @@ enum {
     CALUGNID_AT_P2 = 4,
     CALUGNID_AT_PULSE = 5,       /* the bits of P2 that are pulsed */
     CALUGNID_AT_DESTINATION = 6,
-    CALUGNID_AT_FRAME_LOW = 7,   /* the frame being sent, 0 with nobody */
+    CALUGNID_AT_FRAME_LOW = 7,   /* the frame being sent, else 0 */
     CALUGNID_AT_FRAME_HIGH = 8
 };
 
@@ -204,9 +178,9 @@ enum {
 void calugnid_start(uint8_t *state, uint8_t options, uint8_t version);
 
 /* The same with a key table of the caller's, which is copied into the state: a
- * keyboard byte of scan code set 2, but for the break prefix F0h, has its entry
- * as code of set 1. 0, 13, 14 or 15; refused, the state is as it was, its table
- * too. */
+ * keyboard byte of scan code set 2, except the break prefix F0h, is translated to
+ * its entry, a code of set 1. Returns 0, 13, 14 or 15. If refused, the state and
+ * its table are unchanged. */
 uint8_t calugnid_start_with_table(uint8_t *state, uint8_t options, uint8_t version,
                                   const uint8_t *table, size_t table_length);
 
@@ -231,9 +205,10 @@ void calugnid_run_fitting(uint8_t *state, const uint8_t *list, size_t list_lengt
 uint8_t calugnid_save(const uint8_t *state, uint8_t *saved, size_t saved_length);
 
 /* Makes the controller of the image that stands at the end of `image`, with
- * the ordinary settings, whatever those of the state were. A locked one goes on
- * as if as many of the code's first keys had just been typed as its position
- * says. 0, 10 or 11; refused, the state is as it was, its settings too. */
+ * the ordinary settings, whatever those of the state were. If it is locked,
+ * it goes on as if the first keys of the code, as many as its position says, had
+ * just been typed. Returns 0, 10 or 11. If refused, the state and its settings are
+ * unchanged. */
 uint8_t calugnid_load(uint8_t *state, const uint8_t *image, size_t image_length);
 
 /* The lines with no event, as after a start or a load: an answer that holds 0
@@ -244,7 +219,7 @@ void calugnid_lines(const uint8_t *state, uint8_t *answer);
  * changes. */
 uint8_t calugnid_refusal(const uint8_t *state, uint8_t kind, uint16_t value);
 
-/* The byte being sent, 0 with nobody. */
+/* The byte being sent, 0 if nothing is being sent. */
 uint8_t calugnid_sent_byte(const uint8_t *state);
 
 /* ---- Without a state. */

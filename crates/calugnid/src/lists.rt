@@ -1,7 +1,7 @@
 // Whole lists, and images: nothing is kept between two calls.
 use controller::run::run_fresh;
+use image::find::body_start;
 use image::run::run_image;
-use image_bytes::find::body_start;
 use state::settings::settings_of;
 use translation::key_table::built_in;
 ghost use mathlib.Core.Path.{_≡_};

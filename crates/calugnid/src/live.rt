@@ -1,5 +1,5 @@
 // A live controller: one port access, frame or pin change at a time, on a state that the caller holds.
-use checks::events::refusal;
+use controller::events::refusal;
 use controller::events::sent_byte;
 use controller::run::event;
 use controller::run::run;

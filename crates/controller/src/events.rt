@@ -87,3 +87,10 @@ pub fn sent_byte(s: &State) -> u8
 {
     s[SENT]
 }
+
+// The number of the check that would refuse an event, 0 for none. Nothing is done.
+pub fn refusal(s: &State, kind: u8, low: u8, high: u8) -> u8
+    ensures { λ r. ⌜ r ≡ events.refusal (public (now (s .entry))) (event kind low high) ⌝ }
+{
+    checks::events::refusal(s, kind, low, high)
+}

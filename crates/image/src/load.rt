@@ -1,5 +1,5 @@
 // A state loaded from an image.
-use image_bytes::find::find;
+use crate::find::find;
 use image_bytes::rules::body_kept;
 use state::settings::ordinary;
 use state::state::State;

@@ -3,9 +3,9 @@
 use crate::print::put;
 use crate::print::put_number;
 use crate::text::part;
+use image::find::find;
 use image::load::load;
 use image::save::save;
-use image_bytes::find::find;
 use state::flags::with_breaks;
 use state::flags::with_command;
 use state::flags::with_errors;

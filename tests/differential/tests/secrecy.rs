@@ -19,7 +19,7 @@ const PAIRS: usize = 4_000;
 /// lists of a pair are the same there and need no more than this.
 const EQUAL_PAIRS: usize = 250;
 const DRAWN_STATES: usize = 1_500;
-const PAIRS_WITH_SLIPS: usize = 1_500;
+const PAIRS_WITH_MISMATCHES: usize = 1_500;
 const PAIRS_WITH_TABLES: usize = 1_500;
 
 /// Runs both lists from fresh in buffers that begin alike and compares all of
@@ -187,7 +187,7 @@ fn assert_mismatches_alike(settings: Settings) {
     let mut random = Random::new(seed(settings, 54));
     let mut coverage = PairCoverage::default();
     let fresh = Controller::fresh(settings);
-    for number in 0..(PAIRS_WITH_SLIPS * rounds()) as u64 {
+    for number in 0..(PAIRS_WITH_MISMATCHES * rounds()) as u64 {
         let length = random.pick(&[100, 300, 300, 600]);
         let seed = seed(settings, 1_400_000 + number);
         let pair = pairs::build_with_mismatches(&fresh, seed, length, &mut coverage);
@@ -217,7 +217,7 @@ fn assert_mismatches_alike(settings: Settings) {
 fn pairs_with_mismatches_from_locked_states_are_answered_alike(settings: Settings) {
     let mut random = Random::new(seed(settings, 55));
     let mut coverage = PairCoverage::default();
-    for number in 0..(PAIRS_WITH_SLIPS * rounds()) as u64 {
+    for number in 0..(PAIRS_WITH_MISMATCHES * rounds()) as u64 {
         let state = few_keys::draw_locked(&mut random, settings);
         let seed = seed(settings, 1_500_000 + number);
         let pair = pairs::build_with_mismatches(&state, seed, 80, &mut coverage);
