@@ -1,9 +1,9 @@
 // The checks that refuse what a device or the wire brings, by their numbers; 0 is none.
-use state::lines::at_mode;
-use state::lines::input_full;
-use state::lines::keyboard_off;
-use state::lines::mouse_off;
-use state::lines::output_full;
+use lines::lines::at_mode;
+use lines::lines::input_full;
+use lines::lines::keyboard_off;
+use lines::lines::mouse_off;
+use lines::lines::output_full;
 use state::state::State;
 use translation::bits::word;
 ghost use mathlib.Core.Path.{_≡_};

@@ -1,6 +1,6 @@
 // The checks that refuse a read or a write, by their numbers; 0 is none.
-use state::lines::input_full;
-use state::lines::locked;
+use lines::lines::input_full;
+use lines::lines::locked;
 use state::state::State;
 use translation::bits::word;
 ghost use mathlib.Core.Path.{_≡_};

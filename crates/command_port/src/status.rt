@@ -1,6 +1,6 @@
 // Kind 2, the host reads port 64h: the status.
 use checks::host::read_refusal;
-use state::lines::status;
+use lines::lines::status;
 use state::state::State;
 use state::told::Told;
 use state::told::quiet;

@@ -1,8 +1,8 @@
 // Kind 0, the host reads port 60h: the output byte, which is old if the buffer was empty.
 use checks::host::read_refusal;
+use lines::lines::output_full;
 use state::bits::weight;
 use state::flags::with_output;
-use state::lines::output_full;
 use state::state::FLAGS;
 use state::state::OUTPUT;
 use state::state::State;

@@ -1,14 +1,14 @@
 // Kind 1, a byte written to port 60h: what it does goes by the pending code.
 use checks::host::write_refusal;
+use lines::lines::at_mode;
+use lines::lines::put;
+use lines::lines::put_mouse;
+use lines::lines::second_set;
+use lines::mode::enable_keyboard;
+use lines::mode::set_mode;
 use state::bits::nibble;
 use state::code::drop_code;
 use state::flags::with_command;
-use state::lines::at_mode;
-use state::lines::put;
-use state::lines::put_mouse;
-use state::lines::second_set;
-use state::mode::enable_keyboard;
-use state::mode::set_mode;
 use state::state::CELL;
 use state::state::CODE;
 use state::state::FLAGS;

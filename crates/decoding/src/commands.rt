@@ -1,9 +1,9 @@
 // What a command byte written to port 64h is: whether it acts under the settings of the start, the pending code and the cell that it leaves, the
 // lines that it pulses.
+use lines::lines::at_mode;
+use lines::lines::second_set;
 use state::bits::nibble;
 use state::bits::within;
-use state::lines::at_mode;
-use state::lines::second_set;
 use state::state::State;
 ghost use mathlib.Core.Path.{_≡_};
 ghost use mathlib.Core.Bool.{_&&_};

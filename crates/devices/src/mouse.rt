@@ -1,10 +1,10 @@
 // Kind 5, a frame from the mouse.
 use checks::devices::mouse_refusal;
+use lines::lines::locked;
+use lines::lines::mouse_inhibited;
+use lines::lines::put_mouse;
 use state::errors::ERROR;
 use state::errors::set_errors;
-use state::lines::locked;
-use state::lines::mouse_inhibited;
-use state::lines::put_mouse;
 use state::state::State;
 use state::told::Told;
 use state::told::quiet;

@@ -1,11 +1,11 @@
 // Kinds 6 and 7, the end of a byte being sent: its device took it, or did not in time.
 use checks::devices::end_refusal;
+use lines::lines::at_mode;
+use lines::lines::put;
+use lines::lines::put_mouse;
 use state::bits::weight;
 use state::errors::set_errors;
 use state::flags::with_errors;
-use state::lines::at_mode;
-use state::lines::put;
-use state::lines::put_mouse;
 use state::state::FLAGS;
 use state::state::SENT;
 use state::state::SENT_TO;

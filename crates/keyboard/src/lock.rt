@@ -1,9 +1,9 @@
 // Keys typed while locked: the position that each leads to, and the lock that opens at the end of the code.
-use lock_code::lock::ignored;
-use lock_code::lock::reach;
+use crate::lock_code::ignored;
+use crate::lock_code::reach;
+use lines::lines::put_cell;
 use state::code::code_length;
 use state::flags::with_locked;
-use state::lines::put_cell;
 use state::state::FLAGS;
 use state::state::POSITION;
 use state::state::State;

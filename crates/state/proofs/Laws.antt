@@ -2,7 +2,6 @@
 pub mod Code
 pub mod Lock
 pub mod View
-pub mod Lines
 pub mod Flags
 pub mod Body
 pub mod Changed

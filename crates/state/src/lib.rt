@@ -3,8 +3,6 @@ pub mod bits;
 pub mod code;
 pub mod errors;
 pub mod flags;
-pub mod lines;
-pub mod mode;
 pub mod settings;
 pub mod state;
 pub mod told;

@@ -1,10 +1,10 @@
 // The second command set, the VT82C42's: what its own commands do.
+use lines::lines::at_mode;
+use lines::lines::put;
+use lines::lines::second_set;
 use state::bits::nibble;
 use state::bits::weight;
 use state::bits::within;
-use state::lines::at_mode;
-use state::lines::put;
-use state::lines::second_set;
 use state::state::HIGH_LATCHES;
 use state::state::INPUT_LATCHES;
 use state::state::LATCHES;

@@ -1,2 +1,0 @@
-// The lock code: how far the keys typed while locked lead.
-pub mod lock;
