@@ -5,6 +5,6 @@ use Rattle.machine.specs.State.{Machine}
 use Rattle.state.specs.View.{body}
 use Rattle.image_bytes.specs.Layout.{sealed}
 
--- The body is machine/specs/View's table; edition 1 has a trailer of that number behind it.
+-- The body is state/specs/View's table; edition 1 has a trailer of that number behind it.
 unfoldable pub image : Machine → List ℕ
 image m = sealed 1 (body m)

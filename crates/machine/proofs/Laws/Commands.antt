@@ -262,7 +262,7 @@ module _ (x : Settings) (c : ℕ) where
   unfolding pulseOf
   pulseOf-none h = simp (lt-leb 0xF0 c h)
 
--- ---- codeAsked, lockedUp
+-- ---- codeAsked, lockCommand
 module _ (m : Machine) {has : Bool} (isHas : has ≡ hasCode m) where
   module _ {second : Bool} (isSecond : second ≡ secondSet (m .plain)) where
     pub codeAsked-some : (has && not second) ≡ true → lift (put 0xFA) m ≡ codeAsked m

@@ -1,4 +1,4 @@
--- Laws of the definitions in specs/Frames. Assumes nothing.
+-- Laws of the definitions in specs/Devices. Assumes nothing.
 use mathlib.Core.Path.{_≡_, sym, _∙_}
 use mathlib.Core.Bool.{Bool, true, false, _||_}
 use mathlib.Core.List.{_∷_}
@@ -14,7 +14,7 @@ use Rattle.machine.specs.Devices.{byteDelivered, translated}
 use Rattle.machine.specs.Devices.{mousePut, idle, timedOut}
 use Rattle.machine.proofs.Laws.Lock.{codeTyped-whole, codeTyped-part, reached-part}
 
--- ---- keyError, keyedByte: what is known of the lock and the key switch
+-- ---- keyError, byteDelivered: what is known of the lock and the key switch
 module _ (m : Machine) {shut off : Bool} (isShut : shut ≡ m .plain .locked) (isOff : off ≡ inhibited (m .plain)) where
   pub keyError-off : (shut || off) ≡ true → m ≡ lift keyError m
   unfolding keyError

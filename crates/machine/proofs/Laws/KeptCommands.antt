@@ -106,7 +106,7 @@ module _ {m : Machine} (k : Kept m) where
       (cond-both P (eqb c 0xD0) (put-kept k _ (outputPort-below p))
       (cond-both P (eqb c 0xE0) (put-kept k _ (testInputs-below p)) (secondCommand-kept k c known)))))))))))))
 
-  -- ---- codeAsked, closed, lockedUp
+  -- ---- codeAsked, lockSet, lockCommand
   pub codeAsked-kept : Kept (codeAsked m)
   unfolding codeAsked
   codeAsked-kept = cond-both Kept (hasCode m && not (secondSet (m .plain))) (put-kept k 0xFA (omega arith)) (put-kept k 0xF1 (omega arith))

@@ -22,7 +22,7 @@ use Rattle.machine.proofs.Laws.Cond.{cond-holds, cond-both, not-both}
 use Rattle.machine.proofs.Laws.KeptParts.{withErrors-kept, withBreaks-kept, withPorts-kept, withSending-kept, withLock-kept}
 use Rattle.machine.proofs.Laws.KeptLines.{KeptWith, put-kept, putMouse-kept, putCell-kept}
 
--- ---- positioned, opened, unlocked, try
+-- ---- positioned, lockCleared, unlocked, try
 module _ {m : Machine} (k : Kept m) where
   pub positioned-zero-kept : Kept (positioned 0 m)
   positioned-zero-kept =
@@ -59,7 +59,7 @@ keyError-kept {m} k =
 pub damagedKey-kept : {m : Machine} → Kept m → (t e : Bool) → Kept (damagedKey t e m)
 damagedKey-kept k t e = positioned-zero-kept (keyError-kept (withBreaks-kept (errorsSet-kept k t e) false))
 
--- ---- translated, keyed, keyedByte, soundKey
+-- ---- translated, yieldDelivered, byteDelivered, soundKey
 pub translated-below : (b : ℕ) (p : Public) → ((k : ℕ) → getD (p .settings .table) k 0 < 256) → b < 256 → (x : ℕ) → translated b p .yields ≡ byte x → x < 256
 unfolding translated raw
 translated-below b p bytes small =
