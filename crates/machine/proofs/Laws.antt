@@ -23,4 +23,5 @@ pub mod Counting
 pub mod Run
 pub mod Modes
 pub mod AtMode
+pub mod SecondMode
 pub mod Worked

@@ -2,7 +2,6 @@
 use Prim.Native.Nat.{ℕ, _≤_, _<_}
 use mathlib.Core.Path.{_≡_}
 use mathlib.Core.Bool.{true, false}
-use mathlib.Core.List.{[]}
 use lib.ListN.{length, getD}
 use Rattle.translation.specs.Bits.{has}
 use Rattle.translation.specs.KeyTable.{tableRefusal}
@@ -27,10 +26,8 @@ pub record Kept (m : Machine) : Type 0 where
   pub noCell : (m .plain .host .pending ≡ 2 → ⊥) → m .plain .host .cell ≡ 0
   pub nibble : m .plain .host .nibble < 16
   pub noNibble : m .plain .host .overlay ≡ false → m .plain .host .nibble ≡ 0
-  -- with the second command set bit 0 of the nibble is 0, and no lock code is being loaded or there; so it is not locked either
+  -- with the second command set bit 0 of the nibble is 0
   pub evenNibble : secondSet (m .plain) ≡ true → has (m .plain .host .nibble) 0 ≡ false
-  pub noLoad : secondSet (m .plain) ≡ true → m .plain .host .pending ≡ 3 → ⊥
-  pub noCode : secondSet (m .plain) ≡ true → m .secret .code ≡ []
   pub to : m .plain .sending .to ≤ 2
   pub sent : m .plain .sending .byte < 256
   pub noSent : m .plain .sending .to ≡ 0 → m .plain .sending .byte ≡ 0

@@ -1,6 +1,6 @@
 -- Document 02, W3 and W6: what is true of the modes and the command sets. In PS/2 mode with the first set each rule that looks at mode or set is
 -- document 01's, and what AT mode and the second set add to the state stays as it is. A machine started in AT mode never has what that mode leaves
--- out.
+-- out, and one started with the second set never has a lock code.
 use Prim.Native.Nat.{ℕ, _+_, _*_, _%_}
 use mathlib.Core.List.{[]}
 use mathlib.Core.Path.{_≡_}
@@ -59,4 +59,13 @@ pub record AtPublic (p : Public) : Type 0 where
 
 pub record AtMachine (m : Machine) : Type 0 where
   pub plain : AtPublic (m .plain)
+  pub code : m .secret .code ≡ []
+
+-- With the second command set: no lock code is being loaded, there is none, and it is not locked.
+pub record SecondPublic (p : Public) : Type 0 where
+  pub load : p .host .pending ≡ 3 → ⊥
+  pub locked : p .locked ≡ false
+
+pub record SecondMachine (m : Machine) : Type 0 where
+  pub plain : SecondPublic (m .plain)
   pub code : m .secret .code ≡ []

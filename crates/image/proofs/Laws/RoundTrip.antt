@@ -85,8 +85,6 @@ module _ (s : List ℕ) (long : length s ≡ stateLength) (r : Rules s) (beyond 
         nibble = r .nibble;
         noNibble = λ e. r .noNibble (omega (arith, r .overlay, eqb-false (at s 6) 1 e));
         evenNibble = λ second. not-both second first;
-        noLoad = λ second _. not-both second first;
-        noCode = λ second. not-both second first;
         to = r .to;
         sent = bytes 9;
         noSent = r .noSent;

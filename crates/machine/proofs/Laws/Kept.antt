@@ -38,11 +38,11 @@ module _ (x : Settings) where
   unfolding fresh
   fresh-kept settings =
       grouped-kept (fresh x) (omega arith, λ e. e) (λ _. refl)
-      (omega arith, omega arith, λ _. refl, omega arith, λ _. refl, λ _. refl, λ _ e. omega arith)
+      (omega arith, omega arith, λ _. refl, omega arith, λ _. refl, λ _. refl)
       (omega arith, λ _ _. (refl, refl), λ _. refl, λ _. (refl, refl), omega arith)
       (omega arith, omega arith, λ _. refl)
       fresh-ram-kept
-      (omega arith, omega arith, λ _. refl)
+      (omega arith, omega arith)
       (λ l. not-both l refl, λ _. refl)
       settings
 

@@ -78,7 +78,7 @@ module _ {m : Machine} (k : Kept m) where
   pub overlaid-kept : (n : ℕ) → n < 16 → Kept (lift (overlaid (polled n (m .plain))) m)
   overlaid-kept n low =
       withHost-kept k _
-      (k .pending, k .cell, k .noCell, polled-below n (m .plain) low, λ o. not-both refl o, polled-even n (m .plain), k .noLoad)
+      (k .pending, k .cell, k .noCell, polled-below n (m .plain) low, λ o. not-both refl o, polled-even n (m .plain))
       (λ l. k .locked l .1)
 
   pub selfTested-kept : Kept (lift selfTested m)
@@ -132,7 +132,6 @@ module _ {m : Machine} (k : Kept m) (unlocked : m .plain .locked ≡ false) (c :
         omega arith,
         λ _. refl,
         λ _. refl,
-        λ second e. not-both (ap firstOnly (pendingOf-load c e)) (known .first second),
       )
       (λ l. not-both l unlocked)
 

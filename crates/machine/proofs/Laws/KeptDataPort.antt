@@ -21,7 +21,7 @@ use Rattle.machine.proofs.Laws.KeptLines.{KeptWith, put-kept, putMouse-
 -- ---- settled, dataWritten, latched, cellWritten: locked or not
 module _ {m : Machine} (k : Kept m) where
   pub settled-kept : Kept (lift settled m)
-  settled-kept = withHost-kept k _ (omega arith, omega arith, λ _. refl, k .nibble, k .noNibble, k .evenNibble, λ _ e. omega arith) (λ _. refl)
+  settled-kept = withHost-kept k _ (omega arith, omega arith, λ _. refl, k .nibble, k .noNibble, k .evenNibble) (λ _. refl)
 
   pub dataWritten-kept : Kept (lift dataWritten m)
   dataWritten-kept = withHost-kept k _ (kept-host k) (λ l. k .locked l .1)
@@ -49,17 +49,13 @@ module _ {m : Machine} (k : Kept m) (unlocked : m .plain .locked ≡ false) wher
   send-kept to v low high byte = withSending-kept k _ (high, byte, omega arith) (λ l. not-both l unlocked)
 
   pub dropped-kept : Kept (dropped m)
-  dropped-kept = withCode-kept k [] (omega arith, omega arith, λ _. refl) unlocked
+  dropped-kept = withCode-kept k [] (omega arith, omega arith) unlocked
 
-  -- during a load, so not with the second command set
-  pub appended-kept : (v : ℕ) → 1 ≤ v → v < 256 → length (m .secret .code) < 16 → m .plain .host .pending ≡ 3 → Kept (appended v m)
-  appended-kept v some byte short loading =
+  pub appended-kept : (v : ℕ) → 1 ≤ v → v < 256 → length (m .secret .code) < 16 → Kept (appended v m)
+  appended-kept v some byte short =
       let c = m .secret .code in
-      withCode-kept k (c ++ v ∷ []) (
-        omega (arith, length-append c (v ∷ [])),
-        getD-append-holds (λ n. (1 ≤ n) × (n < 256)) c v (k .codeBytes) (some, byte),
-        λ second. absurd (k .noLoad second loading),
-      )
+      withCode-kept k (c ++ v ∷ [])
+      (omega (arith, length-append c (v ∷ [])), getD-append-holds (λ n. (1 ≤ n) × (n < 256)) c v (k .codeBytes) (some, byte))
       unlocked
 
 pub sendKeyboard-kept : {m : Machine} → Kept m → m .plain .locked ≡ false → (v : ℕ) → v < 256 → Kept (lift (sendKeyboard v) m)
@@ -80,16 +76,15 @@ module _ {m : Machine} (k : Kept m) (unlocked : m .plain .locked ≡ false) (v :
       (cond-both P (eqb code 7) (send-kept k unlocked 2 v (omega arith) (omega arith) byte)
       (sendKeyboard-kept k unlocked v byte)))))
 
-  pub loadByte-kept : m .plain .host .pending ≡ 3 → Kept (loadByte v m)
+  pub loadByte-kept : Kept (loadByte v m)
   unfolding loadByte
-  loadByte-kept loading =
+  loadByte-kept =
       cond-holds Kept (eqb v 0) (λ _. settled-kept k) λ some.
       cond-holds Kept (codeFull m) (λ _. dropped-kept (settled-kept k) unlocked) λ short.
-      appended-kept k unlocked v (omega (arith, eqb-false v 0 some)) byte (leb-false _ _ short) loading
+      appended-kept k unlocked v (omega (arith, eqb-false v 0 some)) byte (leb-false _ _ short)
 
 pub writeData-kept : {m : Machine} → Kept m → m .plain .locked ≡ false → (v : ℕ) → v < 256 → Kept (writeData v m)
 unfolding writeData
 writeData-kept {m} k unlocked v byte =
     let k′ = dataWritten-kept k in
-    cond-holds Kept (eqb (m .plain .host .pending) 3) (λ e. loadByte-kept k′ unlocked v byte (eqb-true (m .plain .host .pending) 3 e))
-    (λ _. settled-kept (plainData-kept k′ unlocked v byte))
+    cond-both Kept (eqb (m .plain .host .pending) 3) (loadByte-kept k′ unlocked v byte) (settled-kept (plainData-kept k′ unlocked v byte))

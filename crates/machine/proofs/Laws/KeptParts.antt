@@ -3,7 +3,7 @@
 use Prim.Native.Nat.{ℕ, _<_, _≤_}
 use mathlib.Core.Path.{_≡_}
 use mathlib.Core.Bool.{Bool, true, false}
-use mathlib.Core.List.{List, []}
+use mathlib.Core.List.{List}
 use lib.ListN.{length, getD}
 use Rattle.translation.specs.Bits.{has}
 use Rattle.translation.specs.KeyTable.{tableRefusal}
@@ -38,13 +38,12 @@ HostKept x h =
     × (h .nibble < 16)
     × (h .overlay ≡ false → h .nibble ≡ 0)
     × (x .secondSet ≡ true → has (h .nibble) 0 ≡ false)
-    × (x .secondSet ≡ true → h .pending ≡ 3 → ⊥)
 
 abbrev pub SendingKept : Sending → Type 0
 SendingKept s = (s .to ≤ 2) × (s .byte < 256) × (s .to ≡ 0 → s .byte ≡ 0)
 
-abbrev pub CodeKept : Settings → List ℕ → Type 0
-CodeKept x c = (length c ≤ 16) × ((k : ℕ) → k < length c → (1 ≤ getD c k 0) × (getD c k 0 < 256)) × (x .secondSet ≡ true → c ≡ [])
+abbrev pub CodeKept : List ℕ → Type 0
+CodeKept c = (length c ≤ 16) × ((k : ℕ) → k < length c → (1 ≤ getD c k 0) × (getD c k 0 < 256))
 
 abbrev pub RamKept : List ℕ → Type 0
 RamKept r = (length r ≡ 32) × ((k : ℕ) → getD r k 0 < 256) × (getD r 0 0 < 128)
@@ -66,7 +65,7 @@ pub grouped-kept : (m : Machine) →
     PortsKept (m .plain .settings) (m .plain .ports) →
     SendingKept (m .plain .sending) →
     RamKept (m .plain .ram) →
-    CodeKept (m .plain .settings) (m .secret .code) →
+    CodeKept (m .secret .code) →
     LockKept m →
     SettingsKept (m .plain .settings) →
     Kept m
@@ -86,8 +85,6 @@ grouped-kept m o e h p s r c l x =
       nibble = h .3;
       noNibble = h .4;
       evenNibble = h .5;
-      noLoad = h .6;
-      noCode = c .2;
       to = s .0;
       sent = s .1;
       noSent = s .2;
@@ -115,7 +112,7 @@ module _ {m : Machine} (k : Kept m) where
   kept-ports = (k .pins, k .latches, k .p25, k .firstSet, k .inputLatches)
 
   pub kept-host : HostKept (m .plain .settings) (m .plain .host)
-  kept-host = (k .pending, k .cell, k .noCell, k .nibble, k .noNibble, k .evenNibble, k .noLoad)
+  kept-host = (k .pending, k .cell, k .noCell, k .nibble, k .noNibble, k .evenNibble)
 
   pub kept-sending : SendingKept (m .plain .sending)
   kept-sending = (k .to, k .sent, k .noSent)
@@ -123,8 +120,8 @@ module _ {m : Machine} (k : Kept m) where
   pub kept-ram : RamKept (m .plain .ram)
   kept-ram = (k .ram, k .cells, k .modeByte)
 
-  pub kept-code : CodeKept (m .plain .settings) (m .secret .code)
-  kept-code = (k .code, k .codeBytes, k .noCode)
+  pub kept-code : CodeKept (m .secret .code)
+  kept-code = (k .code, k .codeBytes)
 
   pub kept-settings : SettingsKept (m .plain .settings)
   kept-settings = (k .version, k .table, k .entries)
@@ -169,7 +166,7 @@ module _ {m : Machine} (k : Kept m) where
       (λ l. (k .locked l .0, k .locked l .1, nobody l), k .unlocked) (kept-settings k)
 
   -- a lock code is changed only while not locked
-  pub withCode-kept : (c : List ℕ) → CodeKept (m .plain .settings) c → m .plain .locked ≡ false →
+  pub withCode-kept : (c : List ℕ) → CodeKept c → m .plain .locked ≡ false →
       Kept (withSecret m (record { code = c; position = m .secret .position }))
   withCode-kept c new unlocked =
       grouped-kept _ (kept-output k) (kept-errors k) (kept-host k) (kept-ports k) (kept-sending k) (kept-ram k) new
