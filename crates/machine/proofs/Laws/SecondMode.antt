@@ -1,21 +1,22 @@
--- With the second command set nothing of the lock comes up: no lock code, none being loaded, not locked. Assumes nothing.
-use Prim.Native.Nat.{ℕ, _%_}
+-- With the second command set nothing of the lock comes up: no lock code, none being loaded, not locked. No rule but the start of a command writes
+-- the pending code, and none but those of the lock locks. Assumes nothing.
+use Prim.Native.Nat.{ℕ}
 use mathlib.Core.Path.{_≡_, refl, ap, sym, _∙_}
-use mathlib.Core.Bool.{Bool, true, false, not, _&&_, _||_}
+use mathlib.Core.Bool.{Bool, true, false, cond, not, _&&_}
 use mathlib.Core.List.{List, [], _∷_}
 use native.Mathlib.Omega.{arith}
-use lib.Dec.{eqb, ltb}
+use lib.Dec.{eqb}
 use borrow.Author.Tests.{eqb-true}
-use Rattle.translation.specs.Bits.{within}
 use Rattle.translation.specs.Frames.{Check, sound, parity, broken, noise, check}
 use Rattle.translation.specs.ScanCodes.{Yielded, nothing, byte}
 use Rattle.machine.specs.Settings.{Settings}
 use Rattle.machine.specs.State.{Public, Machine, fresh, lift}
-use Rattle.machine.specs.Lines.{secondSet, inhibited, mouseInhibited, put}
+use Rattle.machine.specs.Lines.{secondSet, inhibited, put}
 use Rattle.machine.specs.DataPort.{plainData, writeData}
 use Rattle.machine.specs.SecondSet.{lineWritten, singleCommand, secondCommand}
 use Rattle.machine.specs.Commands.{firstOnly, understood, commandWritten, loadCut, plainCommand, hasCode, codeAsked, acts, writeCommand}
-use Rattle.machine.specs.Devices.{keyError, yieldDelivered, byteDelivered, soundKey, keyboardFrame, mousePut, mouseFrame, taken, timedOut, pinned}
+use Rattle.machine.specs.Devices.{errorsSet, breaking, damagedKey, keyError, yieldDelivered, byteDelivered, soundKey, keyboardFrame, mousePut, mouseFrame}
+use Rattle.machine.specs.Devices.{taken, timedOut, pinned}
 use Rattle.machine.specs.Events.{Event, value, refusal, emptied, accept, step}
 use Rattle.machine.specs.Run.{after}
 use Rattle.machine.specs.Modes.{SecondPublic, SecondMachine}
@@ -25,92 +26,81 @@ use Rattle.machine.proofs.Laws.KeptCommands.{pendingOf-load}
 use Rattle.machine.proofs.Laws.Events.{accept-holds}
 use Rattle.machine.proofs.Laws.Settings.{fresh-settings, step-settings}
 
--- ---- rules of the public part: none but a command's own start writes the pending code or locks
-changed : {p q : Public} → SecondPublic p → q .host .pending ≡ p .host .pending → q .locked ≡ p .locked → SecondPublic q
-changed a pending locked = record { load = λ e. a .load (sym pending ∙ e); locked = locked ∙ a .locked }
+-- ---- the pending code and the lock, of a rule by cases
+abbrev part : Public → ℕ × Bool
+part p = (p .host .pending, p .locked)
 
-module _ {p : Public} (a : SecondPublic p) where
-  other : {q : Public} → q .host .pending ≡ p .host .pending → q .locked ≡ p .locked → SecondPublic q
-  other = changed a
+of-pending : (b : Bool) (p q : Public) → cond b p q .host .pending ≡ cond b (p .host .pending) (q .host .pending)
+of-pending true p q = refl
+of-pending false p q = refl
 
-  plainData-second : (v : ℕ) → SecondPublic (plainData v p)
+of-locked : (b : Bool) (p q : Public) → cond b p q .locked ≡ cond b (p .locked) (q .locked)
+of-locked true p q = refl
+of-locked false p q = refl
+
+same : {A : Type 0} (b : Bool) (x : A) → cond b x x ≡ x
+same true x = refl
+same false x = refl
+
+-- ---- rules of the public part
+module _ (p : Public) where
+  plainData-part : (v : ℕ) → part (plainData v p) ≡ part p
   unfolding plainData
-  plainData-second v =
-      let code = p .host .pending in
-      cond-both SecondPublic (eqb code 1) (other refl refl)
-      (cond-both SecondPublic (eqb code 2) (other refl refl)
-      (cond-both SecondPublic (eqb code 4) (other refl refl)
-      (cond-both SecondPublic (eqb code 5) (other refl refl)
-      (cond-both SecondPublic (eqb code 6) (other refl refl) (cond-both SecondPublic (eqb code 7) (other refl refl) (other refl refl))))))
+  plainData-part v = simp (of-pending, of-locked, same)
 
-  secondCommand-second : (c : ℕ) → SecondPublic (secondCommand c p)
+  secondCommand-part : (c : ℕ) → part (secondCommand c p) ≡ part p
   unfolding secondCommand lineWritten singleCommand
-  secondCommand-second c =
-      let k = c % 8 in
-      cond-both SecondPublic (within 0x90 0x9F c) (other refl refl)
-      (cond-both SecondPublic (within 0xB0 0xBF c)
-      (cond-both SecondPublic (ltb k 4) (other refl refl)
-      (cond-both SecondPublic (eqb k 4) (other refl refl) (cond-both SecondPublic (eqb k 5) (other refl refl) (other refl refl))))
-      (cond-both SecondPublic (within 0xE1 0xEF c) (other refl refl)
-      (cond-both SecondPublic (eqb c 0xA1) (other refl refl)
-      (cond-both SecondPublic (eqb c 0xAF) (other refl refl)
-      (cond-both SecondPublic (eqb c 0xC8) (other refl refl)
-      (cond-both SecondPublic (eqb c 0xC9) (other refl refl) (cond-both SecondPublic (eqb c 0xCA) (other refl refl) a)))))))
+  secondCommand-part c = simp (of-pending, of-locked, same)
 
-  plainCommand-second : (c : ℕ) → SecondPublic (plainCommand c p)
+  plainCommand-part : (c : ℕ) → part (plainCommand c p) ≡ part p
   unfolding plainCommand
-  plainCommand-second c =
-      cond-both SecondPublic (within 0x20 0x3F c) (other refl refl)
-      (cond-both SecondPublic (eqb c 0xA7) (other refl refl)
-      (cond-both SecondPublic (eqb c 0xA8) (other refl refl)
-      (cond-both SecondPublic (eqb c 0xA9) (other refl refl)
-      (cond-both SecondPublic (eqb c 0xAA) (other refl refl)
-      (cond-both SecondPublic (eqb c 0xAB) (other refl refl)
-      (cond-both SecondPublic (eqb c 0xAD) (other refl refl)
-      (cond-both SecondPublic (eqb c 0xAE) (other refl refl)
-      (cond-both SecondPublic (eqb c 0xC0) (other refl refl)
-      (cond-both SecondPublic (eqb c 0xC1) (other refl refl)
-      (cond-both SecondPublic (eqb c 0xC2) (other refl refl)
-      (cond-both SecondPublic (eqb c 0xD0) (other refl refl)
-      (cond-both SecondPublic (eqb c 0xE0) (other refl refl) (secondCommand-second c)))))))))))))
+  plainCommand-part c =
+      let own = secondCommand-part c in
+      simp (of-pending, of-locked, ap (λ (x : ℕ × Bool). x .0) own, ap (λ (x : ℕ × Bool). x .1) own, same)
 
-  keyError-second : SecondPublic (keyError p)
+  keyError-part : part (keyError p) ≡ part p
   unfolding keyError
-  keyError-second = cond-both SecondPublic (p .locked || inhibited p) a (other refl refl)
+  keyError-part = simp (of-pending, of-locked, same)
 
-  mousePut-second : (b : ℕ) → SecondPublic (mousePut b p)
+  mousePut-part : (b : ℕ) → part (mousePut b p) ≡ part p
   unfolding mousePut
-  mousePut-second b = cond-both SecondPublic (p .locked || mouseInhibited p) a (other refl refl)
+  mousePut-part b = simp (of-pending, of-locked, same)
 
-  timedOut-second : SecondPublic (timedOut p)
+  timedOut-part : part (timedOut p) ≡ part p
   unfolding timedOut
-  timedOut-second = cond-both SecondPublic (eqb (p .sending .to) 2) (other refl refl) (other refl refl)
+  timedOut-part = simp (of-pending, of-locked, same)
 
-mouseFrame-second : {p : Public} → SecondPublic p → (c : Check) → SecondPublic (mouseFrame c p)
+mouseFrame-part : (c : Check) (p : Public) → part (mouseFrame c p) ≡ part p
 unfolding mouseFrame
-mouseFrame-second a (sound b) = mousePut-second (changed a refl refl) b
-mouseFrame-second a parity = mousePut-second (changed a refl refl) 0xFF
-mouseFrame-second a broken = mousePut-second (changed a refl refl) 0xFF
-mouseFrame-second a noise = a
+mouseFrame-part (sound b) p = mousePut-part _ b
+mouseFrame-part parity p = mousePut-part _ 0xFF
+mouseFrame-part broken p = mousePut-part _ 0xFF
+mouseFrame-part noise p = refl
 
 -- ---- rules of the machine
-second-lift : (f : Public → Public) (m : Machine) → SecondMachine m → SecondPublic (f (m .plain)) → SecondMachine (lift f m)
-second-lift f m a plain = record { plain = plain; code = a .code }
+second-lift : (f : Public → Public) (m : Machine) → SecondMachine m → part (f (m .plain)) ≡ part (m .plain) → SecondMachine (lift f m)
+second-lift f m a e =
+    record {
+      plain = record {
+        load = λ loading. a .plain .load (ap (λ (x : ℕ × Bool). x .0) (sym e) ∙ loading);
+        locked = ap (λ (x : ℕ × Bool). x .1) e ∙ a .plain .locked;
+      };
+      code = a .code;
+    }
 
 module _ (m : Machine) (a : SecondMachine m) where
   writeData-second : (v : ℕ) → SecondMachine (writeData v m)
   unfolding writeData
   writeData-second v =
-      let done = plainData-second (changed (a .plain) refl refl) v in
       cond-holds SecondMachine (eqb (m .plain .host .pending) 3) (λ e. absurd (a .plain .load (eqb-true (m .plain .host .pending) 3 e)))
-      (λ _. record { plain = record { load = omega arith; locked = done .locked }; code = a .code })
+      (λ _. record { plain = record { load = omega arith; locked = ap (λ (x : ℕ × Bool). x .1) (plainData-part _ v) ∙ a .plain .locked }; code = a .code })
 
   loadCut-second : SecondMachine (loadCut m)
   unfolding loadCut
   loadCut-second = cond-both SecondMachine (eqb (m .plain .host .pending) 3) (record { plain = a .plain; code = refl }) a
 
   put-second : (b : ℕ) → SecondMachine (lift (put b) m)
-  put-second b = second-lift (put b) m a (changed (a .plain) refl refl)
+  put-second b = second-lift (put b) m a refl
 
   acts-second : (c : ℕ) → firstOnly c ≡ false → SecondMachine (acts c m)
   unfolding acts codeAsked
@@ -119,7 +109,7 @@ module _ (m : Machine) (a : SecondMachine m) where
       cond-both SecondMachine (eqb c 0xA4) (cond-both SecondMachine (hasCode m && not (secondSet (m .plain))) (put-second 0xFA) (put-second 0xF1))
       (cond-holds SecondMachine (eqb c 0xA5) (λ e. absurd (never 0xA5 refl e)) λ _.
       cond-holds SecondMachine (eqb c 0xA6) (λ e. absurd (never 0xA6 refl e)) λ _.
-      second-lift (plainCommand c) m a (plainCommand-second (a .plain) c))
+      second-lift (plainCommand c) m a (plainCommand-part (m .plain) c))
 
   yieldDelivered-second : (y : Yielded) → SecondMachine (yieldDelivered y m)
   unfolding yieldDelivered byteDelivered
@@ -138,21 +128,25 @@ writeCommand-second m a second c =
     record { plain = record { load = λ e. not-both (ap firstOnly (pendingOf-load known e)) none; locked = cut .plain .locked }; code = cut .code } in
     acts-second (lift (commandWritten known) (loadCut m)) written known none
 
+damaged-second : (m : Machine) → SecondMachine m → (t e : Bool) → SecondMachine (damagedKey t e m)
+damaged-second m a t e =
+    let shown = second-lift (λ p. keyError (breaking false (errorsSet t e p))) m a (keyError-part _) in
+    record { plain = shown .plain; code = shown .code }
+
 keyboardFrame-second : (c : Check) (m : Machine) → SecondMachine m → SecondMachine (keyboardFrame c m)
 unfolding keyboardFrame soundKey
-keyboardFrame-second (sound b) m a = yieldDelivered-second _ (record { plain = changed (a .plain) refl refl; code = a .code }) _
-keyboardFrame-second parity m a = record { plain = keyError-second (changed (a .plain) refl refl); code = a .code }
-keyboardFrame-second broken m a = record { plain = keyError-second (changed (a .plain) refl refl); code = a .code }
+keyboardFrame-second (sound b) m a = yieldDelivered-second _ (record { plain = record { load = a .plain .load; locked = a .plain .locked }; code = a .code }) _
+keyboardFrame-second parity m a = damaged-second m a false true
+keyboardFrame-second broken m a = damaged-second m a true false
 keyboardFrame-second noise m a = a
 
 -- ---- accept, step, after
 accept-second : (m : Machine) (e : Event) → SecondMachine m → secondSet (m .plain) ≡ true → SecondMachine (accept m e)
 accept-second m e a second =
-    let p = a .plain in
-    accept-holds m e SecondMachine a (second-lift emptied m a (changed p refl refl)) (λ _. writeData-second m a (value e))
+    accept-holds m e SecondMachine a (second-lift emptied m a refl) (λ _. writeData-second m a (value e))
     (λ _. writeCommand-second m a second (value e)) (λ _. keyboardFrame-second (check (value e)) m a)
-    (second-lift (mouseFrame (check (value e))) m a (mouseFrame-second p (check (value e)))) (second-lift taken m a (changed p refl refl))
-    (second-lift timedOut m a (timedOut-second p)) (λ _. second-lift (pinned (value e)) m a (changed p refl refl))
+    (second-lift (mouseFrame (check (value e))) m a (mouseFrame-part (check (value e)) (m .plain))) (second-lift taken m a refl)
+    (second-lift timedOut m a (timedOut-part (m .plain))) (λ _. second-lift (pinned (value e)) m a refl)
 
 step-second : (m : Machine) (e : Event) → SecondMachine m → secondSet (m .plain) ≡ true → SecondMachine (step m e)
 unfolding step
