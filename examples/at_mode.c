@@ -18,14 +18,14 @@ static void show(uint8_t *state, uint8_t kind, uint16_t value)
     uint8_t answer[CALUGNID_ANSWER_BYTES];
 
     calugnid_event(state, kind, value, answer);
-    printf("   %02X %02X %02X %02X", answer[CALUGNID_AT_REFUSAL], answer[CALUGNID_AT_STATUS],
-           answer[CALUGNID_AT_P2], answer[CALUGNID_AT_PULSE]);
-    if (!(answer[CALUGNID_AT_STATUS] & CALUGNID_STATUS_OBF)) {
+    printf("   %02X %02X %02X %02X", answer[CALUGNID_ANSWER_REFUSAL], answer[CALUGNID_ANSWER_STATUS],
+           answer[CALUGNID_ANSWER_P2], answer[CALUGNID_ANSWER_PULSE]);
+    if (!(answer[CALUGNID_ANSWER_STATUS] & CALUGNID_STATUS_OBF)) {
         printf(" --");
         return;
     }
     calugnid_event(state, CALUGNID_READ_DATA, 0, answer);
-    printf(" %02X", answer[CALUGNID_AT_READ]);
+    printf(" %02X", answer[CALUGNID_ANSWER_READ]);
 }
 
 static void compare(struct pair *pair, const char *what, uint8_t kind, uint16_t value)

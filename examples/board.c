@@ -39,12 +39,12 @@ static void drive_line(const char *name, uint8_t bit, uint8_t before, uint8_t af
 /* P2 gives levels; an interrupt controller wants to see the changes only. */
 static void drive_lines(struct board *board, const uint8_t *answer)
 {
-    uint8_t p2 = answer[CALUGNID_AT_P2];
+    uint8_t p2 = answer[CALUGNID_ANSWER_P2];
 
     drive_line("IRQ 1", CALUGNID_P2_KIRQ, board->p2, p2);
     drive_line("IRQ 12", CALUGNID_P2_MIRQ, board->p2, p2);
     board->p2 = p2;
-    if (answer[CALUGNID_AT_PULSE] & CALUGNID_P2_P20)
+    if (answer[CALUGNID_ANSWER_PULSE] & CALUGNID_P2_P20)
         printf("%-9s pulsed\n", "reset");
 }
 
@@ -71,7 +71,7 @@ static void board_start(struct board *board)
     board->mouse.kind = CALUGNID_MOUSE_FRAME;
     calugnid_start(board->state, CALUGNID_ORDINARY, 0);
     calugnid_lines(board->state, lines);
-    board->p2 = lines[CALUGNID_AT_P2];
+    board->p2 = lines[CALUGNID_ANSWER_P2];
 }
 
 /* ---- The devices. */
@@ -109,9 +109,9 @@ static bool device_takes(struct board *board)
     struct device *device;
 
     calugnid_lines(board->state, answer);
-    if (answer[CALUGNID_AT_DESTINATION] == CALUGNID_TO_NOBODY)
+    if (answer[CALUGNID_ANSWER_DESTINATION] == CALUGNID_TO_NOBODY)
         return false;
-    device = answer[CALUGNID_AT_DESTINATION] == CALUGNID_TO_KEYBOARD ? &board->keyboard
+    device = answer[CALUGNID_ANSWER_DESTINATION] == CALUGNID_TO_KEYBOARD ? &board->keyboard
                                                                      : &board->mouse;
     printf("%-9s takes %02X\n", device->name, byte);
     board_event(board, CALUGNID_BYTE_TAKEN, 0, answer);
@@ -185,7 +185,7 @@ static uint8_t host_status(struct board *board)
     uint8_t answer[CALUGNID_ANSWER_BYTES];
 
     board_event(board, CALUGNID_READ_STATUS, 0, answer);
-    return answer[CALUGNID_AT_READ];
+    return answer[CALUGNID_ANSWER_READ];
 }
 
 /* Waits until the host can read a byte, or until a write would be taken:
@@ -217,7 +217,7 @@ static uint8_t host_write(struct board *board, uint8_t kind, uint8_t byte)
     host_wait(board, kind);
     printf("%-9s %s <- %02X\n", "host", kind == CALUGNID_WRITE_DATA ? "60h" : "64h", byte);
     board_event(board, kind, byte, answer);
-    return answer[CALUGNID_AT_REFUSAL];
+    return answer[CALUGNID_ANSWER_REFUSAL];
 }
 
 static uint8_t host_read(struct board *board)
@@ -226,9 +226,9 @@ static uint8_t host_read(struct board *board)
 
     host_wait(board, CALUGNID_READ_DATA);
     calugnid_event(board->state, CALUGNID_READ_DATA, 0, answer);
-    printf("%-9s 60h -> %02X\n", "host", answer[CALUGNID_AT_READ]);
+    printf("%-9s 60h -> %02X\n", "host", answer[CALUGNID_ANSWER_READ]);
     drive_lines(board, answer);
-    return answer[CALUGNID_AT_READ];
+    return answer[CALUGNID_ANSWER_READ];
 }
 
 static void host_command(struct board *board, uint8_t byte)

@@ -23,7 +23,7 @@ struct panel {
 /* The built-in table stands in a fresh state. */
 static void make_table(struct panel *panel)
 {
-    memcpy(panel->table, panel->states[BUILT_IN] + CALUGNID_AT_TABLE, sizeof panel->table);
+    memcpy(panel->table, panel->states[BUILT_IN] + CALUGNID_STATE_TABLE, sizeof panel->table);
     for (size_t i = 0; i < sizeof UPPER; i++) {
         uint8_t code = panel->table[UPPER[i]];
 
@@ -52,10 +52,10 @@ static void read_codes(struct panel *panel, const char *what)
     printf("%-32s", what);
     for (int i = 0; i < CONTROLLERS; i++) {
         calugnid_event(panel->states[i], CALUGNID_READ_DATA, 0, answer);
-        if (answer[CALUGNID_AT_OLD])
+        if (answer[CALUGNID_ANSWER_OLD])
             printf("   --");
         else
-            printf("   %02X", answer[CALUGNID_AT_READ]);
+            printf("   %02X", answer[CALUGNID_ANSWER_READ]);
     }
     printf("\n");
 }

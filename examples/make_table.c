@@ -35,7 +35,7 @@ static int refused(const uint8_t *table)
 int main(int count, char **words)
 {
     uint8_t state[CALUGNID_STATE_BYTES];
-    uint8_t *table = state + CALUGNID_AT_TABLE;
+    uint8_t *table = state + CALUGNID_STATE_TABLE;
 
     calugnid_start(state, CALUGNID_ORDINARY, 0);
     for (int i = 1; i < count; i += 2) {

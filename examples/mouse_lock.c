@@ -23,9 +23,9 @@ struct pair {
 static void accept_event(uint8_t *state, uint8_t kind, uint16_t value, uint8_t *answer)
 {
     calugnid_event(state, kind, value, answer);
-    if (answer[CALUGNID_AT_REFUSAL] == CALUGNID_ACCEPTED)
+    if (answer[CALUGNID_ANSWER_REFUSAL] == CALUGNID_ACCEPTED)
         return;
-    printf("failed: an event was refused by %d\n", answer[CALUGNID_AT_REFUSAL]);
+    printf("failed: an event was refused by %d\n", answer[CALUGNID_ANSWER_REFUSAL]);
     exit(1);
 }
 
@@ -43,13 +43,13 @@ static void show(uint8_t *state, uint8_t kind, uint16_t value)
     uint8_t answer[CALUGNID_ANSWER_BYTES];
 
     accept_event(state, kind, value, answer);
-    printf("   %02X %02X", answer[CALUGNID_AT_STATUS], answer[CALUGNID_AT_P2]);
-    if (!(answer[CALUGNID_AT_STATUS] & CALUGNID_STATUS_OBF)) {
+    printf("   %02X %02X", answer[CALUGNID_ANSWER_STATUS], answer[CALUGNID_ANSWER_P2]);
+    if (!(answer[CALUGNID_ANSWER_STATUS] & CALUGNID_STATUS_OBF)) {
         printf(" --");
         return;
     }
     accept_event(state, CALUGNID_READ_DATA, 0, answer);
-    printf(" %02X", answer[CALUGNID_AT_READ]);
+    printf(" %02X", answer[CALUGNID_ANSWER_READ]);
 }
 
 static void compare(struct pair *pair, const char *what, uint8_t kind, uint16_t value)

@@ -7,9 +7,9 @@
 static void print_answer(const uint8_t *answer)
 {
     printf("refusal %d, read %02X%s, status %02X, P2 %02X\n",
-           answer[CALUGNID_AT_REFUSAL], answer[CALUGNID_AT_READ],
-           answer[CALUGNID_AT_OLD] ? " (old)" : "",
-           answer[CALUGNID_AT_STATUS], answer[CALUGNID_AT_P2]);
+           answer[CALUGNID_ANSWER_REFUSAL], answer[CALUGNID_ANSWER_READ],
+           answer[CALUGNID_ANSWER_OLD] ? " (old)" : "",
+           answer[CALUGNID_ANSWER_STATUS], answer[CALUGNID_ANSWER_P2]);
 }
 
 int main(void)

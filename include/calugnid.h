@@ -50,7 +50,7 @@ extern "C" {
 enum {
     CALUGNID_STATE_BYTES = 321,
     CALUGNID_TABLE_BYTES = 256, /* a key table, an entry for each byte */
-    CALUGNID_AT_TABLE = 65,     /* where the key table stands in a state */
+    CALUGNID_STATE_TABLE = 65,  /* where the key table stands in a state */
     CALUGNID_IMAGE_BYTES = 68,
     CALUGNID_EVENT_BYTES = 3,   /* in a list: kind, value low, value high */
     CALUGNID_ANSWER_BYTES = 9,
@@ -106,15 +106,15 @@ enum {
 /* Where each of the nine answer bytes stands. Those from the status on, the
  * pulse apart, are the lines as they are after the event. */
 enum {
-    CALUGNID_AT_REFUSAL = 0,
-    CALUGNID_AT_READ = 1,        /* the byte that the host reads, else 0 */
-    CALUGNID_AT_OLD = 2,         /* 1 where the buffer read was empty */
-    CALUGNID_AT_STATUS = 3,
-    CALUGNID_AT_P2 = 4,
-    CALUGNID_AT_PULSE = 5,       /* the bits of P2 that are pulsed */
-    CALUGNID_AT_DESTINATION = 6,
-    CALUGNID_AT_FRAME_LOW = 7,   /* the frame being sent, else 0 */
-    CALUGNID_AT_FRAME_HIGH = 8
+    CALUGNID_ANSWER_REFUSAL = 0,
+    CALUGNID_ANSWER_READ = 1,        /* the byte that the host reads, else 0 */
+    CALUGNID_ANSWER_OLD = 2,         /* 1 where the buffer read was empty */
+    CALUGNID_ANSWER_STATUS = 3,
+    CALUGNID_ANSWER_P2 = 4,
+    CALUGNID_ANSWER_PULSE = 5,       /* the bits of P2 that are pulsed */
+    CALUGNID_ANSWER_DESTINATION = 6,
+    CALUGNID_ANSWER_FRAME_LOW = 7,   /* the frame being sent, else 0 */
+    CALUGNID_ANSWER_FRAME_HIGH = 8
 };
 
 /* Status bits. Commands C1h and C2h show lines of P1 in place of the upper four

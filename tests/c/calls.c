@@ -58,7 +58,7 @@ static void try_events(void)
     CHECK(memcmp(answer, sending, sizeof sending) == 0);
     CHECK(calugnid_sent_byte(state) == 0x14);
     calugnid_event(state, CALUGNID_WRITE_DATA, 0x14, answer);
-    CHECK(answer[CALUGNID_AT_REFUSAL] == CALUGNID_SENDING);
+    CHECK(answer[CALUGNID_ANSWER_REFUSAL] == CALUGNID_SENDING);
 }
 
 /* An image's body is the state without its settings, and an image may stand
@@ -100,7 +100,7 @@ static void try_starts(void)
     fresh[28] = 0x70; /* command byte */
     fresh[61] = 0x3F; /* P10-P15, with the second command set */
     fresh[62] = 3;    /* P22 and P23 */
-    built_in_table(fresh + CALUGNID_AT_TABLE);
+    built_in_table(fresh + CALUGNID_STATE_TABLE);
     for (unsigned i = 0; i < 256 * 256; i++) {
         uint8_t options = (uint8_t)(i % 256), version = (uint8_t)(i / 256);
 
@@ -215,7 +215,7 @@ static void try_beside_mouse_lock(void)
     start_turned(state, CALUGNID_MOUSE_LOCK, 0x0A);
     CHECK(leaves(state, CALUGNID_WRITE_COMMAND, 0xD4, 0x08, 0x03));
     calugnid_event(state, CALUGNID_WRITE_DATA, 0xF4, answer);
-    CHECK(answer[CALUGNID_AT_DESTINATION] == CALUGNID_TO_MOUSE);
+    CHECK(answer[CALUGNID_ANSWER_DESTINATION] == CALUGNID_TO_MOUSE);
     CHECK(calugnid_refusal(state, CALUGNID_MOUSE_FRAME, SOUND) == CALUGNID_NOT_READY);
     CHECK(leaves(state, CALUGNID_BYTE_TIMED_OUT, 0, 0x61, 0x23));
     CHECK(calugnid_refusal(state, CALUGNID_MOUSE_FRAME, SOUND) == CALUGNID_NOT_READY);
@@ -279,7 +279,7 @@ static bool noise_leaves(uint8_t *state, uint8_t kind, uint8_t refusal)
 
     memcpy(before, state, sizeof before);
     calugnid_lines(state, right);
-    right[CALUGNID_AT_REFUSAL] = refusal;
+    right[CALUGNID_ANSWER_REFUSAL] = refusal;
     for (uint16_t value = 1; value < 0x800; value += 2) {
         calugnid_event(state, kind, value, answer);
         if (memcmp(answer, right, sizeof right) != 0 || memcmp(state, before, sizeof before) != 0)
@@ -418,8 +418,8 @@ static bool times_out(uint8_t *state)
 
     calugnid_event(state, CALUGNID_WRITE_COMMAND, 0xD4, answer);
     calugnid_event(state, CALUGNID_WRITE_DATA, 0xF4, answer);
-    return answer[CALUGNID_AT_REFUSAL] == CALUGNID_ACCEPTED &&
-           answer[CALUGNID_AT_DESTINATION] == CALUGNID_TO_KEYBOARD &&
+    return answer[CALUGNID_ANSWER_REFUSAL] == CALUGNID_ACCEPTED &&
+           answer[CALUGNID_ANSWER_DESTINATION] == CALUGNID_TO_KEYBOARD &&
            leaves(state, CALUGNID_BYTE_TIMED_OUT, 0, 0x31, 0x8F) && reads(state, 0xFE, false);
 }
 
@@ -443,7 +443,7 @@ static void try_pc_at_errors(uint8_t options)
     CHECK(reads(state, 0x1D, false));
     CHECK(times_out(state));
     calugnid_event(state, CALUGNID_WRITE_DATA, 0xF4, answer);
-    CHECK(answer[CALUGNID_AT_STATUS] == 0x32);
+    CHECK(answer[CALUGNID_ANSWER_STATUS] == 0x32);
     CHECK(leaves(state, CALUGNID_BYTE_TAKEN, 0, 0x10, 0x8F));
 }
 
@@ -487,7 +487,7 @@ static void try_pc_at_port(uint8_t options)
     CHECK(leaves(state, CALUGNID_KEYBOARD_FRAME, SOUND, 0x11, 0x95));
     for (unsigned command = 0xF0; command <= 0xFF; command++) {
         calugnid_event(state, CALUGNID_WRITE_COMMAND, (uint8_t)command, answer);
-        CHECK(answer[CALUGNID_AT_PULSE] == 0xFF - command && answer[CALUGNID_AT_P2] == 0x95);
+        CHECK(answer[CALUGNID_ANSWER_PULSE] == 0xFF - command && answer[CALUGNID_ANSWER_P2] == 0x95);
     }
     CHECK(reads(state, 0x14, false));
 }
@@ -505,7 +505,7 @@ static void try_pc_at_commands(uint8_t options)
         CHECK(leaves(state, CALUGNID_WRITE_COMMAND, 0x74, 0x18, 0x8F));
         CHECK(leaves(state, CALUGNID_WRITE_COMMAND, commands[i], 0x18, 0x8F));
         calugnid_event(state, CALUGNID_WRITE_DATA, 0x14, answer);
-        CHECK(answer[CALUGNID_AT_DESTINATION] == CALUGNID_TO_KEYBOARD);
+        CHECK(answer[CALUGNID_ANSWER_DESTINATION] == CALUGNID_TO_KEYBOARD);
         CHECK(leaves(state, CALUGNID_BYTE_TAKEN, 0, 0x10, 0x8F));
         CHECK(puts_byte(state, 0x34, 0x00, 0x8F)); /* cell 14h was not written */
     }

@@ -40,7 +40,7 @@ static inline bool reads(uint8_t *state, uint8_t byte, bool old)
     uint8_t answer[CALUGNID_ANSWER_BYTES];
 
     calugnid_event(state, CALUGNID_READ_DATA, 0, answer);
-    return answer[CALUGNID_AT_READ] == byte && (answer[CALUGNID_AT_OLD] == 1) == old;
+    return answer[CALUGNID_ANSWER_READ] == byte && (answer[CALUGNID_ANSWER_OLD] == 1) == old;
 }
 
 /* Whether the command puts this byte and nothing else changes. */

@@ -114,7 +114,7 @@ static void try_answers(uint8_t *state)
     CHECK(puts_byte(state, 0xA4, 0xF1, PS2_PORT));
     CHECK(commands(state, 0xA5, PS2_PORT));
     calugnid_event(state, CALUGNID_WRITE_DATA, 0x1E, answer);
-    CHECK(answer[CALUGNID_AT_DESTINATION] == CALUGNID_TO_KEYBOARD);
+    CHECK(answer[CALUGNID_ANSWER_DESTINATION] == CALUGNID_TO_KEYBOARD);
     CHECK(leaves(state, CALUGNID_BYTE_TAKEN, 0, 0x10, PS2_PORT));
     CHECK(commands(state, 0xA6, PS2_PORT));
     CHECK(calugnid_refusal(state, CALUGNID_WRITE_COMMAND, 0) == CALUGNID_ACCEPTED);

@@ -153,13 +153,13 @@ static void try_starts(void)
         CHECK(calugnid_start_with_table(state, (uint8_t)options, VERSION, table, TABLE) == 0);
         CHECK(memcmp(table, kept, sizeof kept) == 0);
         calugnid_start(plain, (uint8_t)options, VERSION);
-        CHECK(memcmp(state, plain, CALUGNID_AT_TABLE) == 0);
-        CHECK(memcmp(state + CALUGNID_AT_TABLE, kept, sizeof kept) == 0);
+        CHECK(memcmp(state, plain, CALUGNID_STATE_TABLE) == 0);
+        CHECK(memcmp(state + CALUGNID_STATE_TABLE, kept, sizeof kept) == 0);
         built_in_table(table);
         CHECK(calugnid_start_with_table(state, (uint8_t)options, VERSION, table, TABLE) == 0);
         CHECK(memcmp(state, plain, sizeof plain) == 0);
     }
-    CHECK(CALUGNID_AT_TABLE + CALUGNID_TABLE_BYTES == CALUGNID_STATE_BYTES);
+    CHECK(CALUGNID_STATE_TABLE + CALUGNID_TABLE_BYTES == CALUGNID_STATE_BYTES);
 }
 
 /* Whether the host reads this code for a byte of the keyboard. */
@@ -168,7 +168,7 @@ static bool gives(uint8_t *state, uint8_t byte, uint8_t code)
     uint8_t answer[CALUGNID_ANSWER_BYTES];
 
     calugnid_event(state, CALUGNID_KEYBOARD_FRAME, calugnid_frame(byte), answer);
-    return answer[CALUGNID_AT_REFUSAL] == 0 && reads(state, code, false);
+    return answer[CALUGNID_ANSWER_REFUSAL] == 0 && reads(state, code, false);
 }
 
 /* A controller with the table and the keyboard on. */
@@ -228,7 +228,7 @@ static void try_runs(void)
     CHECK(calugnid_run_with_table(CALUGNID_ORDINARY, VERSION, table, TABLE, list, sizeof list,
                                   answers, sizeof answers) == CALUGNID_ACCEPTED);
     CHECK(calugnid_run(CALUGNID_ORDINARY, VERSION, list, sizeof list, other, sizeof other) == 0);
-    CHECK(answers[18 + CALUGNID_AT_READ] == 0x30 && other[18 + CALUGNID_AT_READ] == 0x1E);
+    CHECK(answers[18 + CALUGNID_ANSWER_READ] == 0x30 && other[18 + CALUGNID_ANSWER_READ] == 0x1E);
     CHECK(answers[27] == 0xA5);
     built_in_table(table);
     CHECK(calugnid_run_with_table(CALUGNID_ORDINARY, VERSION, table, TABLE, list, sizeof list,
@@ -248,7 +248,7 @@ static void try_images(void)
     CHECK(gives(state, 0x1C, 0x30));
     CHECK(calugnid_load(state, image, sizeof image) == CALUGNID_ACCEPTED);
     built_in_table(table);
-    CHECK(memcmp(state + CALUGNID_AT_TABLE, table, sizeof table) == 0);
+    CHECK(memcmp(state + CALUGNID_STATE_TABLE, table, sizeof table) == 0);
     CHECK(gives(state, 0x1C, 0x1E));
 }
 
