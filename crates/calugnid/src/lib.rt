@@ -1,4 +1,5 @@
 // The controller for a board's C or Rust code: functions on numbers and bytes. include/calugnid.h documents them.
+pub mod asked;
 pub mod lists;
 pub mod live;
 pub mod tables;

@@ -1,3 +1,4 @@
-// The controller: one event, and a list of events.
+// The controller: one event, a list of events, and what can be asked of a state.
+pub mod asked;
 pub mod events;
 pub mod run;

@@ -1,6 +1,9 @@
 //! The C functions of the library, as `include/calugnid.h` has them.
 
 unsafe extern "C" {
+    pub fn calugnid_library_version() -> u32;
+    pub fn calugnid_state_bytes() -> usize;
+
     pub fn calugnid_start(state: *mut u8, options: u8, version: u8);
     pub fn calugnid_start_with_table(
         state: *mut u8,
@@ -29,6 +32,11 @@ unsafe extern "C" {
     pub fn calugnid_lines(state: *const u8, answer: *mut u8);
     pub fn calugnid_refusal(state: *const u8, kind: u8, value: u16) -> u8;
     pub fn calugnid_sent_byte(state: *const u8) -> u8;
+    pub fn calugnid_status(state: *const u8) -> u8;
+    pub fn calugnid_ready(state: *const u8, kind: u8) -> bool;
+    pub fn calugnid_locked(state: *const u8) -> bool;
+    pub fn calugnid_options(state: *const u8) -> u8;
+    pub fn calugnid_version_byte(state: *const u8) -> u8;
 
     pub fn calugnid_run(
         options: u8,

@@ -17,6 +17,18 @@ pub const WRONG_PARITY: u16 = 256;
 pub const BROKEN: u16 = 257;
 pub const NOISE: u16 = 258;
 
+/// The version of the library.
+pub fn library_version() -> u32 {
+    // SAFETY: nothing is passed.
+    unsafe { ffi::calugnid_library_version() }
+}
+
+/// How many bytes a state has in the library.
+pub fn state_bytes() -> usize {
+    // SAFETY: nothing is passed.
+    unsafe { ffi::calugnid_state_bytes() }
+}
+
 /// Runs a list from fresh and hands back the refusal number.
 pub fn run(options: u8, version: u8, list: &[u8], answers: &mut [u8]) -> u8 {
     // SAFETY: each pointer comes with the length of its own slice.

@@ -126,4 +126,33 @@ impl State {
         // SAFETY: the pointer is to a whole state.
         unsafe { ffi::calugnid_sent_byte(self.pointer()) }
     }
+
+    /// What a host reads at port 64h.
+    pub fn status(&self) -> u8 {
+        // SAFETY: the pointer is to a whole state.
+        unsafe { ffi::calugnid_status(self.pointer()) }
+    }
+
+    /// Whether an event of this kind would be accepted now.
+    pub fn ready(&self, kind: u8) -> bool {
+        // SAFETY: the pointer is to a whole state.
+        unsafe { ffi::calugnid_ready(self.pointer(), kind) }
+    }
+
+    pub fn locked(&self) -> bool {
+        // SAFETY: the pointer is to a whole state.
+        unsafe { ffi::calugnid_locked(self.pointer()) }
+    }
+
+    /// The options of the start that are looked at.
+    pub fn options(&self) -> u8 {
+        // SAFETY: the pointer is to a whole state.
+        unsafe { ffi::calugnid_options(self.pointer()) }
+    }
+
+    /// The version byte of the start.
+    pub fn version_byte(&self) -> u8 {
+        // SAFETY: the pointer is to a whole state.
+        unsafe { ffi::calugnid_version_byte(self.pointer()) }
+    }
 }

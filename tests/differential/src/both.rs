@@ -9,6 +9,9 @@ use crate::starts;
 use calugnid::Answer;
 use model::{ANSWER_SIZE, Controller, EVENT_SIZE, IMAGE_SIZE, STATE_SIZE, Settings, state_bytes};
 
+/// Refuses an event by its value, whatever the state.
+const VALUE_TOO_LARGE: u8 = 2;
+
 pub struct Both {
     pub model: Controller,
     fenced: Fenced,
@@ -114,18 +117,35 @@ impl Both {
         let expected = self.model.refusal(event.kind, event.value);
         let refusal = self.fenced.state().refusal(event.kind, event.value);
         assert_eq!(refusal, expected, "refusal of {event:?}");
+        if refusal != VALUE_TOO_LARGE {
+            let ready = self.fenced.state().ready(event.kind);
+            assert_eq!(ready, refusal == 0, "ready for {event:?}");
+        }
         self.assert_same("a question");
         refusal
     }
 
-    /// The lines and the byte being sent.
+    /// The lines, the byte being sent, and what else can be asked of a state.
     pub fn look(&self, random: &mut Random) {
         let mut buffer = Guarded::new(random, ANSWER_SIZE);
         self.fenced.state().lines(buffer.array());
         buffer.assert_begins(&self.model.lines(), "lines");
         let sent = self.fenced.state().sent_byte();
         assert_eq!(sent, self.model.sent_byte(), "byte being sent");
+        self.look_at_questions();
         self.assert_same("a look");
+    }
+
+    fn look_at_questions(&self) {
+        let (state, model) = (self.fenced.state(), &self.model);
+        assert_eq!(state.status(), model.status(), "status");
+        assert_eq!(state.locked(), model.locked, "locked");
+        assert_eq!(state.options(), model.settings.options(), "options");
+        assert_eq!(state.version_byte(), model.settings.version, "version byte");
+        for kind in 0..=10 {
+            let expected = model.refusal(kind, 0) == 0;
+            assert_eq!(state.ready(kind), expected, "ready for kind {kind}");
+        }
     }
 
     /// Saves with the given room; hands back what was written.

@@ -1,5 +1,5 @@
-//! The bytes of a state that no call made. What the answers are is open there,
-//! but every call ends, stays inside what it is lent, and fits with the others.
+//! The bytes of a state that no call made. The model has no such states, but
+//! every call ends, stays inside what it is lent, and fits with the others.
 
 use calugnid::{Answer, STATE_SIZE};
 use differential::event::Event;
@@ -52,6 +52,10 @@ fn look(random: &mut Random, fenced: &Fenced) -> Answer {
     if lines[6] != 0 {
         assert_eq!(frame, model::frame(fenced.state().sent_byte()));
     }
+    assert_eq!(fenced.state().status(), lines[3]);
+    assert_eq!(fenced.state().locked(), before[1] & 0x40 != 0);
+    assert_eq!(fenced.state().options(), before[60] & 7);
+    assert_eq!(fenced.state().version_byte(), before[64]);
     let mut saved = Guarded::new(random, IMAGE_SIZE + 1);
     assert_eq!(fenced.state().save(saved.inside()), 0);
     let image = saved.inside()[..IMAGE_SIZE].to_vec();
@@ -80,6 +84,9 @@ fn one_event_at_a_time() {
             let tried = unguided::any(&mut random);
             let before = fenced.bytes();
             let foretold = fenced.state().refusal(tried.kind, tried.value);
+            if foretold != 2 {
+                assert_eq!(fenced.state().ready(tried.kind), foretold == 0);
+            }
             fenced.assert_bytes(&before, "a question");
             let answer = event(&mut random, &mut fenced, tried);
             assert_eq!(answer[0], foretold);

@@ -36,9 +36,17 @@ fn only_three_bits_of_the_options_start_anything() {
             expected[64] = version;
             let what = format!("a start with {options:02X} and {version:02X}");
             fenced.assert_bytes(&expected, &what);
+            assert_eq!(fenced.state().options(), options % 8, "{what}");
+            assert_eq!(fenced.state().version_byte(), version, "{what}");
         }
         fenced = Fenced::new(&mut random);
     }
+}
+
+#[test]
+fn the_library_tells_its_version_and_the_size_of_a_state() {
+    assert_eq!(calugnid::library_version(), 1);
+    assert_eq!(calugnid::state_bytes(), calugnid::STATE_SIZE);
 }
 
 /// The check of the mouse frame, the byte read, the error of the time-out, the
