@@ -18,7 +18,8 @@ static void show(uint8_t *state, uint8_t kind, uint16_t value)
     uint8_t answer[CALUGNID_ANSWER_BYTES];
 
     calugnid_event(state, kind, value, answer);
-    printf("   %02X %02X %02X %02X", answer[CALUGNID_ANSWER_REFUSAL], answer[CALUGNID_ANSWER_STATUS],
+    printf("   %02X %02X %02X %02X",
+           answer[CALUGNID_ANSWER_REFUSAL], answer[CALUGNID_ANSWER_STATUS],
            answer[CALUGNID_ANSWER_P2], answer[CALUGNID_ANSWER_PULSE]);
     if (!(answer[CALUGNID_ANSWER_STATUS] & CALUGNID_STATUS_OBF)) {
         printf(" --");

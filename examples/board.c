@@ -36,13 +36,15 @@ static void drive_line(const char *name, uint8_t bit, uint8_t before, uint8_t af
         printf("%-9s %s\n", name, after & bit ? "up" : "down");
 }
 
-/* P2 gives levels; an interrupt controller wants to see the changes only. */
+/* P2 gives levels; an interrupt controller wants to see the changes only. A PC
+ * is reset by a pulse of P20, and where D1h lets P20 fall. */
 static void drive_lines(struct board *board, const uint8_t *answer)
 {
     uint8_t p2 = answer[CALUGNID_ANSWER_P2];
 
     drive_line("IRQ 1", CALUGNID_P2_KIRQ, board->p2, p2);
     drive_line("IRQ 12", CALUGNID_P2_MIRQ, board->p2, p2);
+    drive_line("P20", CALUGNID_P2_P20, board->p2, p2);
     board->p2 = p2;
     if (answer[CALUGNID_ANSWER_PULSE] & CALUGNID_P2_P20)
         printf("%-9s pulsed\n", "reset");
@@ -52,12 +54,6 @@ static void board_event(struct board *board, uint8_t kind, uint16_t value, uint8
 {
     calugnid_event(board->state, kind, value, answer);
     drive_lines(board, answer);
-}
-
-/* No byte is being sent while locked, so no earlier check stands before it. */
-static bool board_locked(const struct board *board)
-{
-    return calugnid_refusal(board->state, CALUGNID_WRITE_COMMAND, 0) == CALUGNID_LOCKED;
 }
 
 static void board_start(struct board *board)
@@ -112,7 +108,7 @@ static bool device_takes(struct board *board)
     if (answer[CALUGNID_ANSWER_DESTINATION] == CALUGNID_TO_NOBODY)
         return false;
     device = answer[CALUGNID_ANSWER_DESTINATION] == CALUGNID_TO_KEYBOARD ? &board->keyboard
-                                                                     : &board->mouse;
+                                                                         : &board->mouse;
     printf("%-9s takes %02X\n", device->name, byte);
     board_event(board, CALUGNID_BYTE_TAKEN, 0, answer);
     device_answer(device, byte);
@@ -139,21 +135,21 @@ static void keep_release_back(struct board *board)
 static void device_sends(struct board *board, struct device *device)
 {
     uint8_t answer[CALUGNID_ANSWER_BYTES];
-    bool locked = board_locked(board);
-    uint8_t byte, refusal;
+    bool locked = calugnid_locked(board->state);
+    uint8_t byte;
 
     if (device->count == 0)
         return;
     byte = device->queue[0];
-    refusal = calugnid_refusal(board->state, device->kind, calugnid_frame(byte));
-    if (refusal != CALUGNID_ACCEPTED) {
-        printf("%-9s holds %02X, refusal %d\n", device->name, byte, refusal);
+    if (!calugnid_ready(board->state, device->kind)) {
+        printf("%-9s holds %02X, refusal %d\n", device->name, byte,
+               calugnid_refusal(board->state, device->kind, calugnid_frame(byte)));
         return;
     }
     printf("%-9s sends %02X\n", device->name, byte);
     device_drop(device, 1);
     board_event(board, device->kind, calugnid_frame(byte), answer);
-    if (locked && !board_locked(board))
+    if (locked && !calugnid_locked(board->state))
         board->opened_by = byte;
 }
 
@@ -180,14 +176,6 @@ static void release(struct board *board, uint8_t key)
 
 /* ---- The host's accesses. The devices go on while it polls the status. */
 
-static uint8_t host_status(struct board *board)
-{
-    uint8_t answer[CALUGNID_ANSWER_BYTES];
-
-    board_event(board, CALUGNID_READ_STATUS, 0, answer);
-    return answer[CALUGNID_ANSWER_READ];
-}
-
 /* Waits until the host can read a byte, or until a write would be taken:
  * refusal 3 goes once IBF is 0. */
 static void host_wait(struct board *board, uint8_t kind)
@@ -196,7 +184,7 @@ static void host_wait(struct board *board, uint8_t kind)
     uint8_t bit = reads ? CALUGNID_STATUS_OBF : CALUGNID_STATUS_IBF;
 
     for (int polls = 0; polls < POLLS_MOST; polls++) {
-        bool ready = ((host_status(board) & bit) != 0) == reads;
+        bool ready = ((calugnid_status(board->state) & bit) != 0) == reads;
 
         if (!ready && reads)
             printf("%-9s waits, OBF is 0\n", "host");
@@ -262,13 +250,13 @@ static void host_expect(struct board *board, uint8_t byte)
 static void test_controller(struct board *board)
 {
     printf("-- tests\n");
-    host_command(board, 0xAD);
-    host_command(board, 0xA7);
-    host_command(board, 0xAA);
+    host_command(board, CALUGNID_CMD_KEYBOARD_OFF);
+    host_command(board, CALUGNID_CMD_MOUSE_OFF);
+    host_command(board, CALUGNID_CMD_SELF_TEST);
     host_expect(board, 0x55);
-    host_command(board, 0xAB);
+    host_command(board, CALUGNID_CMD_TEST_KEYBOARD);
     host_expect(board, 0x00);
-    host_command(board, 0xA9);
+    host_command(board, CALUGNID_CMD_TEST_MOUSE);
     host_expect(board, 0x00);
 }
 
@@ -276,10 +264,11 @@ static void test_controller(struct board *board)
 static void set_command_byte(struct board *board)
 {
     printf("-- command byte\n");
-    host_command(board, 0x20);
-    host_expect(board, 0x44);
-    host_command(board, 0x60);
-    host_data(board, 0x47);
+    host_command(board, CALUGNID_CMD_READ_MODE);
+    host_expect(board, CALUGNID_MODE_TRANSLATE | CALUGNID_MODE_SYS);
+    host_command(board, CALUGNID_CMD_WRITE_MODE);
+    host_data(board, CALUGNID_MODE_TRANSLATE | CALUGNID_MODE_SYS | CALUGNID_MODE_EKI |
+                         CALUGNID_MODE_EMI);
 }
 
 static void reset_keyboard(struct board *board)
@@ -293,12 +282,12 @@ static void reset_keyboard(struct board *board)
 static void start_mouse(struct board *board)
 {
     printf("-- mouse reset and enabled\n");
-    host_command(board, 0xD4);
+    host_command(board, CALUGNID_CMD_SEND_TO_MOUSE);
     host_send(board, 0xFF);
     host_expect(board, 0xFA);
     host_expect(board, 0xAA);
     host_expect(board, 0x00);
-    host_command(board, 0xD4);
+    host_command(board, CALUGNID_CMD_SEND_TO_MOUSE);
     host_send(board, 0xF4);
     host_expect(board, 0xFA);
 }
@@ -317,11 +306,11 @@ static void type_key(struct board *board)
 static void load_code(struct board *board)
 {
     printf("-- lock code\n");
-    host_command(board, 0x73);
+    host_command(board, CALUGNID_CMD_WRITE_CELL + 0x13);
     host_data(board, 0xC3);
-    host_command(board, 0x74);
+    host_command(board, CALUGNID_CMD_WRITE_CELL + 0x14);
     host_data(board, 0xC4);
-    host_command(board, 0xA5);
+    host_command(board, CALUGNID_CMD_LOAD_CODE);
     host_data(board, 0x1E);
     host_data(board, 0x30);
     host_data(board, 0x00);
@@ -338,9 +327,10 @@ static void type_at_lock(struct board *board, uint8_t key)
 static void close_and_open(struct board *board)
 {
     printf("-- locked\n");
-    host_command(board, 0xA6);
+    host_command(board, CALUGNID_CMD_LOCK);
     host_expect(board, 0xC3);
-    printf("%-9s refused by %d\n", "board", host_write(board, CALUGNID_WRITE_COMMAND, 0x20));
+    printf("%-9s refused by %d\n", "board",
+           host_write(board, CALUGNID_WRITE_COMMAND, CALUGNID_CMD_READ_MODE));
     printf("-- a wrong second key\n");
     type_at_lock(board, 0x1C);
     type_at_lock(board, 0x21);
@@ -349,7 +339,7 @@ static void close_and_open(struct board *board)
     type_at_lock(board, 0x32);
     host_expect(board, 0xC4);
     printf("-- open\n");
-    host_command(board, 0xA4);
+    host_command(board, CALUGNID_CMD_ASK_CODE);
     host_expect(board, 0xFA);
 }
 
@@ -357,6 +347,8 @@ int main(void)
 {
     struct board board;
 
+    if (!calugnid_fits())
+        fail("the library is not this header's");
     board_start(&board);
     test_controller(&board);
     set_command_byte(&board);
@@ -365,6 +357,6 @@ int main(void)
     type_key(&board);
     load_code(&board);
     close_and_open(&board);
-    host_command(&board, 0xFE);
+    host_command(&board, CALUGNID_CMD_RESET);
     return 0;
 }

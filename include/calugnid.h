@@ -1,39 +1,82 @@
 /* The 8042 keyboard controller model of the frost panel, for C and C++.
- * Link target/staticlib/libcalugnid.a, which `rt staticlib calugnid` builds.
+ *
+ * Link target/staticlib/libcalugnid.a, which `rt staticlib calugnid` builds
+ * with the Rattle toolchain rattle-kit-5. It is for x86-64 Linux, asks a C
+ * library for memcpy and memset alone, and uses the vector registers that every
+ * x86-64 processor has (xmm, SSE2): code that must leave these alone, as a
+ * kernel's often must, cannot call it. The data sheet, docs/DATASHEET.md, has
+ * every rule in tables.
  *
  * A controller is a state of CALUGNID_STATE_BYTES bytes that the caller keeps
  * and lends to each call. The library has no memory of its own, allocates
  * nothing and prints nothing. Make a state by calugnid_start or calugnid_load
- * and change it by calls only. On any other 321 bytes a call still ends and
- * stays inside what it is lent, but its answers need not be a controller's.
+ * and change it by calls only. On any other 321 bytes a call still ends, stays
+ * inside what it is lent and gives the answers of the machine that the bytes
+ * stand for (data sheet, "State and image"). If they break a body rule, these
+ * need not be a controller's, and bits that stand for nothing are left open.
  *
  * The settings are chosen at the start and kept in the state. No event changes
- * them. An image of edition 1 has no room for them: a save leaves them out, and a
- * load gives the ordinary settings.
+ * them. An image of edition 1 has no room for them: a save leaves them out, and
+ * a load gives the ordinary settings.
+ *
+ * A fresh controller, as a start leaves it, is one after power-on:
+ * - Both devices are off, so the first key is refused by 5. AEh switches the
+ *   keyboard on, A8h the mouse, and the self-test AAh both. A byte sent to the
+ *   keyboard switches it on too.
+ * - Keys are translated from scan code set 2 to set 1. Interrupts are off.
+ * - P1 is FFh: every pin is 1, and the key switch is not turned.
+ * - The output buffer is empty, nothing is being sent, there is no lock code.
+ * The status is 10h, and P2 is 4Bh, in AT mode CFh.
+ *
+ * A start-up. Each line is an event, its value, and what comes of it:
+ *   CALUGNID_WRITE_COMMAND   CALUGNID_CMD_SELF_TEST   both devices on
+ *   CALUGNID_READ_DATA       0                        reads 55h
+ *   CALUGNID_WRITE_COMMAND   CALUGNID_CMD_WRITE_MODE
+ *   CALUGNID_WRITE_DATA      0x47                     both interrupts on
+ *   CALUGNID_KEYBOARD_FRAME  calugnid_frame(0x1C)     key A: IRQ 1 rises
+ *   CALUGNID_READ_DATA       0                        reads 1Eh, A in set 1
+ *
+ * A lock code is loaded by A5h (CALUGNID_CMD_LOAD_CODE), then its bytes, 1 to
+ * 16 and none of them 00h, written to port 60h, then 00h. They are codes of set
+ * 1: 1Eh 30h is typed with the keys A and B. A command before 00h, or a 17th
+ * byte, leaves no code. A6h (CALUGNID_CMD_LOCK) then locks: until the code has
+ * been typed, keys are not shown to the host and writes are refused by 4. AT
+ * mode and the second command set have no lock code.
  *
  * What a caller owes:
  * - Pointers to valid memory of the size named, not null even where a length
  *   is 0. No alignment is needed.
  * - No two arguments of a call overlap where one of them is written.
  * - One thread at a time for each state.
+ * - A header and an archive that belong together: calugnid_fits tells.
  * Everything else may be anything: a call that cannot do its work hands back
  * the number of the check that refuses it, and changes nothing.
  *
  * Advice for a board:
  * - P2 gives levels. After each event compare its bits with those of the
  *   answer before, and drive an interrupt line only when its bit changed.
+ * - A PC is reset by a pulse of P20, and as well when bit 0 of P2 falls, which
+ *   D1h and a data byte can do.
+ * - A host polls the status a thousand times for each byte. Answer it with
+ *   calugnid_status, not with an event: a read of port 64h changes nothing.
  * - The byte read stands in the answer to the read. Take it before the next
  *   frame is fed: each event writes all nine bytes.
- * - A device keeps its frame until calugnid_refusal says 0 for it.
+ * - A device keeps its frame until calugnid_ready says that it would be taken.
+ *   In AT mode no frame of the mouse ever is.
+ * - A device's reply does not overtake a byte that the host has not read. So a
+ *   driver that waits for FAh may read a key first.
  * - A load gives the ordinary settings, and no call changes the settings of a
  *   running controller. A board that must keep its settings must not load.
  * - A frame that mouse lock keeps back is lost: the refusal is 0, so the mouse
  *   does not send it again. This holds for replies of the mouse too.
  * - A frame with a wrong start bit is noise. Feed it or drop it: the event
  *   changes nothing, refused or not, and the host sees nothing of it.
- * - A lock closed by A6h opens as soon as the keys counted end with the lock code,
- *   whatever was typed before. A keyboard frame that is broken or has wrong parity
- *   starts the count again.
+ * - A lock closed by A6h opens as soon as the keys counted end with the lock
+ *   code, whatever was typed before. A keyboard frame that is broken or has
+ *   wrong parity starts the count again.
+ * - The key that opened the lock is released after that, and the host reads
+ *   its break code: the last byte of the lock code with bit 7 set. A board that
+ *   must hide this keeps that release back, as examples/board.c does.
  */
 #ifndef CALUGNID_H
 #define CALUGNID_H
@@ -46,7 +89,19 @@
 extern "C" {
 #endif
 
-/* Sizes in bytes. */
+/* The version of this header and of the library that belongs to it. It goes up
+ * with each change of a call, a size or a rule. */
+#define CALUGNID_VERSION 1
+
+/* On calls whose result can be a refusal: gcc and clang warn where it is not
+ * looked at. */
+#if defined(__GNUC__)
+#define CALUGNID_WARN_UNUSED __attribute__((warn_unused_result))
+#else
+#define CALUGNID_WARN_UNUSED
+#endif
+
+/* Sizes in bytes, and a place in a state. */
 enum {
     CALUGNID_STATE_BYTES = 321,
     CALUGNID_TABLE_BYTES = 256, /* a key table, an entry for each byte */
@@ -57,10 +112,10 @@ enum {
     CALUGNID_LIST_MOST = 21000  /* the longest list */
 };
 
-/* Settings: the bits of `options`. docs/DATASHEET.md, "Start settings", says what
- * each changes. Bits without a name here are not looked at; a caller leaves them
- * 0, since later editions of the library may use them. With the first command set
- * the version byte is kept in the state and never shows. */
+/* Settings: the bits of `options`. The data sheet, "Start settings", says what
+ * each changes. Bits without a name here are not looked at; a caller leaves
+ * them 0, since later editions of the library may use them. With the first
+ * command set the version byte is kept in the state and never shows. */
 enum {
     CALUGNID_ORDINARY = 0,      /* none of the settings below */
     CALUGNID_MOUSE_LOCK = 0x01, /* the key switch keeps the mouse back too */
@@ -81,6 +136,79 @@ enum {
     CALUGNID_PINS = 8            /* the input port P1; FFh */
 };
 
+/* Commands: the values of CALUGNID_WRITE_COMMAND. To put a byte is to place it
+ * in the output buffer for the host; "data" is the next byte written to port
+ * 60h. Those marked * do nothing in AT mode, those marked 1 do nothing with the
+ * second command set. Bytes without a name do nothing. */
+enum {
+    CALUGNID_CMD_READ_MODE = 0x20,      /* puts the command byte, RAM cell 0 */
+    CALUGNID_CMD_READ_CELL = 0x20,      /* plus 00h-1Fh: puts that RAM cell */
+    CALUGNID_CMD_WRITE_MODE = 0x60,     /* data becomes the command byte */
+    CALUGNID_CMD_WRITE_CELL = 0x60,     /* plus 01h-1Fh: data to that cell */
+    CALUGNID_CMD_ASK_CODE = 0xA4,       /* * puts FAh, or F1h: no lock code */
+    CALUGNID_CMD_LOAD_CODE = 0xA5,      /* * 1 data up to 00h is a lock code */
+    CALUGNID_CMD_LOCK = 0xA6,           /* * 1 locks if there is a lock code */
+    CALUGNID_CMD_MOUSE_OFF = 0xA7,      /* * switches the mouse off */
+    CALUGNID_CMD_MOUSE_ON = 0xA8,       /* * switches the mouse on */
+    CALUGNID_CMD_TEST_MOUSE = 0xA9,     /* * puts 00h: its line is well */
+    CALUGNID_CMD_SELF_TEST = 0xAA,      /* puts 55h; both devices on, SYS 1 */
+    CALUGNID_CMD_TEST_KEYBOARD = 0xAB,  /* puts 00h: its line is well */
+    CALUGNID_CMD_KEYBOARD_OFF = 0xAD,   /* switches the keyboard off */
+    CALUGNID_CMD_KEYBOARD_ON = 0xAE,    /* switches the keyboard on */
+    CALUGNID_CMD_READ_P1 = 0xC0,        /* puts the input port P1 */
+    CALUGNID_CMD_POLL_P1_LOW = 0xC1,    /* * P10-P13 in status bits 4-7 */
+    CALUGNID_CMD_POLL_P1_HIGH = 0xC2,   /* * P14-P17 in status bits 4-7 */
+    CALUGNID_CMD_READ_P2 = 0xD0,        /* puts the output port P2 */
+    CALUGNID_CMD_WRITE_P2 = 0xD1,       /* data to the latches of P2 */
+    CALUGNID_CMD_PUT_DATA = 0xD2,       /* * data is put */
+    CALUGNID_CMD_PUT_AS_MOUSE = 0xD3,   /* * data is put as the mouse's */
+    CALUGNID_CMD_SEND_TO_MOUSE = 0xD4,  /* * data is sent to the mouse */
+    CALUGNID_CMD_READ_INPUTS = 0xE0,    /* puts the test inputs */
+    CALUGNID_CMD_PULSE = 0xF0,          /* plus bits 0-3: pulses lines of P2
+                                           whose bit is 0; but 2 and 3 only in
+                                           AT mode */
+    CALUGNID_CMD_RESET = 0xFE           /* pulses P20, a PC's reset */
+};
+
+/* Those that the second command set has besides. Latches are those of P1 and
+ * P2; "low" writes 0 to one, "high" 1. */
+enum {
+    CALUGNID_CMD_WRITE_P1_LOW = 0x90,   /* plus bits 0-3: to P10-P13 */
+    CALUGNID_CMD_READ_VERSION = 0xA1,   /* puts the version byte */
+    CALUGNID_CMD_VERSION_AGAIN = 0xAF,  /* the same */
+    CALUGNID_CMD_P10_LOW = 0xB0,        /* P10 low */
+    CALUGNID_CMD_P11_LOW = 0xB1,        /* P11 low */
+    CALUGNID_CMD_P12_LOW = 0xB2,        /* P12 low */
+    CALUGNID_CMD_P13_LOW = 0xB3,        /* P13 low */
+    CALUGNID_CMD_P22_LOW = 0xB4,        /* P22 low */
+    CALUGNID_CMD_P23_LOW = 0xB5,        /* P23 low */
+    CALUGNID_CMD_P14_LOW = 0xB6,        /* P14 low */
+    CALUGNID_CMD_P15_LOW = 0xB7,        /* P15 low */
+    CALUGNID_CMD_P10_HIGH = 0xB8,       /* P10 high */
+    CALUGNID_CMD_P11_HIGH = 0xB9,       /* P11 high */
+    CALUGNID_CMD_P12_HIGH = 0xBA,       /* P12 high */
+    CALUGNID_CMD_P13_HIGH = 0xBB,       /* P13 high */
+    CALUGNID_CMD_P22_HIGH = 0xBC,       /* P22 high */
+    CALUGNID_CMD_P23_HIGH = 0xBD,       /* P23 high */
+    CALUGNID_CMD_P14_HIGH = 0xBE,       /* P14 high */
+    CALUGNID_CMD_P15_HIGH = 0xBF,       /* P15 high */
+    CALUGNID_CMD_ALLOW_P22_P23 = 0xC8,  /* D1h may write P22 and P23 */
+    CALUGNID_CMD_FORBID_P22_P23 = 0xC9, /* D1h may not, as after a start */
+    CALUGNID_CMD_WHICH_MODE = 0xCA,     /* puts 01h, in AT mode 00h */
+    CALUGNID_CMD_WRITE_P21_P23 = 0xE0   /* plus 1-15: its bits 1-3 to P21-P23 */
+};
+
+/* Bits of the command byte, RAM cell 0. Bit 7 is always 0. */
+enum {
+    CALUGNID_MODE_EKI = 0x01,          /* the keyboard's interrupt enabled */
+    CALUGNID_MODE_EMI = 0x02,          /* the mouse's interrupt enabled */
+    CALUGNID_MODE_SYS = 0x04,          /* shown in the status */
+    CALUGNID_MODE_OVERRIDE = 0x08,     /* the key switch does not stop keys */
+    CALUGNID_MODE_KEYBOARD_OFF = 0x10, /* its frames are refused by 5 */
+    CALUGNID_MODE_MOUSE_OFF = 0x20,    /* its frames are refused by 5 */
+    CALUGNID_MODE_TRANSLATE = 0x40     /* keys from scan code set 2 to set 1 */
+};
+
 /* Refusals: 1-6 and 12 of an event, 7-11 and 13-15 of a whole call. 12 is
  * checked straight after 2, and 13-15, in this order, before 7. */
 enum {
@@ -89,16 +217,16 @@ enum {
     CALUGNID_BAD_VALUE = 2,     /* above the largest for its kind */
     CALUGNID_SENDING = 3,       /* a write while a byte is being sent (IBF) */
     CALUGNID_LOCKED = 4,        /* a write while locked */
-    CALUGNID_NOT_READY = 5,     /* a frame while its device is off, OBF or IBF is 1 */
+    CALUGNID_NOT_READY = 5,     /* a frame; device off, OBF 1 or IBF 1 */
     CALUGNID_NOT_SENDING = 6,   /* taken or timed out with nothing being sent */
     CALUGNID_BAD_LIST = 7,      /* length no multiple of 3, or above 21,000 */
     CALUGNID_NO_ROOM = 8,       /* under 9 answer bytes an event */
     CALUGNID_NO_SAVE_ROOM = 9,  /* under 68 bytes to save to */
-    CALUGNID_BAD_IMAGE = 10,    /* too short, or mark, edition, distance or sum wrong */
+    CALUGNID_BAD_IMAGE = 10,    /* too short, or its trailer is wrong */
     CALUGNID_BAD_BODY = 11,     /* a body rule broken */
     CALUGNID_NO_MOUSE = 12,     /* a mouse frame in AT mode */
     CALUGNID_BAD_TABLE = 13,    /* a key table whose length is not 256 */
-    CALUGNID_BAD_KEYS = 14,     /* not each of 01h-7Fh once in entries 01h-7Fh */
+    CALUGNID_BAD_KEYS = 14,     /* entries 01h-7Fh: not each of 01h-7Fh once */
     CALUGNID_BAD_FIXED = 15     /* entry 00h not FFh, or E0h, E1h, EEh, F0h, FAh
                                    or FEh not itself */
 };
@@ -117,6 +245,28 @@ enum {
     CALUGNID_ANSWER_FRAME_HIGH = 8
 };
 
+/* The same nine bytes by name. There is no padding. */
+struct calugnid_answer {
+    uint8_t refusal, read, old, status, p2, pulse;
+    uint8_t destination, frame_low, frame_high;
+};
+
+#if defined(__cplusplus) && __cplusplus >= 201103L
+static_assert(sizeof(struct calugnid_answer) == CALUGNID_ANSWER_BYTES,
+              "an answer is nine bytes");
+#elif defined(__STDC_VERSION__) && __STDC_VERSION__ >= 201112L
+_Static_assert(sizeof(struct calugnid_answer) == CALUGNID_ANSWER_BYTES,
+               "an answer is nine bytes");
+#endif
+
+/* Answers as the bytes that a call writes:
+ *     struct calugnid_answer answer;
+ *     calugnid_event(state, kind, value, calugnid_bytes(&answer)); */
+static inline uint8_t *calugnid_bytes(struct calugnid_answer *answers)
+{
+    return (uint8_t *)answers;
+}
+
 /* Status bits. Commands C1h and C2h show lines of P1 in place of the upper four
  * until the next command; with the second command set in place of bits 5-7. */
 enum {
@@ -124,7 +274,7 @@ enum {
     CALUGNID_STATUS_IBF = 0x02,    /* input buffer full: a byte is being sent */
     CALUGNID_STATUS_SYS = 0x04,    /* system flag, of the command byte */
     CALUGNID_STATUS_C = 0x08,      /* the last write was to port 64h */
-    CALUGNID_STATUS_SWITCH = 0x10, /* pin 7 of P1, the key switch; 0 when turned */
+    CALUGNID_STATUS_SWITCH = 0x10, /* pin 7 of P1, key switch; 0 when turned */
     CALUGNID_STATUS_MOUSE = 0x20,  /* the unread byte is the mouse's */
     CALUGNID_STATUS_TERR = 0x40,   /* framing error, or a byte timed out */
     CALUGNID_STATUS_PERR = 0x80    /* parity error */
@@ -138,7 +288,7 @@ enum {
 
 /* Bits of the output port P2. */
 enum {
-    CALUGNID_P2_P20 = 0x01,         /* the processor's reset on a PC, low when active */
+    CALUGNID_P2_P20 = 0x01,         /* a PC's reset, active when it is 0 */
     CALUGNID_P2_P21 = 0x02,         /* the A20 gate on a PC */
     CALUGNID_P2_MOUSE_OFF = 0x08,
     CALUGNID_P2_KIRQ = 0x10,        /* keyboard interrupt, IRQ 1 */
@@ -171,6 +321,22 @@ enum {
     CALUGNID_BREAK_FLAG = 0x200
 };
 
+/* ---- Which library this is. */
+
+/* CALUGNID_VERSION of the library that is linked. */
+uint32_t calugnid_library_version(void);
+
+/* The bytes of a state in the library that is linked. */
+size_t calugnid_state_bytes(void);
+
+/* Whether header and library belong together. If not, a call may write past
+ * the end of a state: ask once before the first start. */
+static inline bool calugnid_fits(void)
+{
+    return calugnid_library_version() == CALUGNID_VERSION &&
+           calugnid_state_bytes() == CALUGNID_STATE_BYTES;
+}
+
 /* ---- A controller that a board keeps: `state` is 321 bytes, `answer` is 9. */
 
 /* Makes a fresh controller with the settings that `options` names, with this
@@ -178,59 +344,89 @@ enum {
 void calugnid_start(uint8_t *state, uint8_t options, uint8_t version);
 
 /* The same with a key table of the caller's, which is copied into the state: a
- * keyboard byte of scan code set 2, except the break prefix F0h, is translated to
- * its entry, a code of set 1. Returns 0, 13, 14 or 15. If refused, the state and
- * its table are unchanged. */
-uint8_t calugnid_start_with_table(uint8_t *state, uint8_t options, uint8_t version,
-                                  const uint8_t *table, size_t table_length);
+ * keyboard byte of scan code set 2, except the break prefix F0h, is translated
+ * to its entry, a code of set 1. Returns 0, 13, 14 or 15. If refused, the state
+ * and its table are unchanged. */
+CALUGNID_WARN_UNUSED
+uint8_t calugnid_start_with_table(uint8_t *state, uint8_t options,
+                                  uint8_t version, const uint8_t *table,
+                                  size_t table_length);
 
 /* One event. A refused event leaves the state as it was, and its answer holds
  * the refusal and the unchanged lines. */
-void calugnid_event(uint8_t *state, uint8_t kind, uint16_t value, uint8_t *answer);
+void calugnid_event(uint8_t *state, uint8_t kind, uint16_t value,
+                    uint8_t *answer);
 
 /* A list of events, three bytes each; nine bytes written for each. Bytes past
  * the last answer stay. 0, 7 or 8; refused, nothing changes. */
-uint8_t calugnid_run_state(uint8_t *state, const uint8_t *list, size_t list_length,
+CALUGNID_WARN_UNUSED
+uint8_t calugnid_run_state(uint8_t *state,
+                           const uint8_t *list, size_t list_length,
                            uint8_t *answers, size_t answers_length);
 
 /* Runs a list of any length, as far as the answers have room: a third of
  * `list_length` or a ninth of `answers_length` events, whichever is fewer. One
  * or two bytes at the list's end are no event. */
-void calugnid_run_fitting(uint8_t *state, const uint8_t *list, size_t list_length,
+void calugnid_run_fitting(uint8_t *state,
+                          const uint8_t *list, size_t list_length,
                           uint8_t *answers, size_t answers_length);
 
 /* Saves to the first 68 bytes. The first 60 of these are the state's, which
  * leaves its settings out and what AT mode and the second command set add. 0 or
  * 9. */
-uint8_t calugnid_save(const uint8_t *state, uint8_t *saved, size_t saved_length);
+CALUGNID_WARN_UNUSED
+uint8_t calugnid_save(const uint8_t *state,
+                      uint8_t *saved, size_t saved_length);
 
 /* Makes the controller of the image that stands at the end of `image`, with
- * the ordinary settings, whatever those of the state were. If it is locked,
- * it goes on as if the first keys of the code, as many as its position says, had
- * just been typed. Returns 0, 10 or 11. If refused, the state and its settings are
- * unchanged. */
-uint8_t calugnid_load(uint8_t *state, const uint8_t *image, size_t image_length);
+ * the ordinary settings, whatever those of the state were. If it is locked, it
+ * goes on as if the first keys of the code, as many as its position says, had
+ * just been typed. Returns 0, 10 or 11. If refused, the state and its settings
+ * are unchanged. */
+CALUGNID_WARN_UNUSED
+uint8_t calugnid_load(uint8_t *state,
+                      const uint8_t *image, size_t image_length);
+
+/* ---- Questions about a state. Nothing changes. */
+
+/* The status, which a host reads at port 64h. */
+uint8_t calugnid_status(const uint8_t *state);
 
 /* The lines with no event, as after a start or a load: an answer that holds 0
  * for refusal, byte read, old mark and pulse. */
 void calugnid_lines(const uint8_t *state, uint8_t *answer);
 
-/* The check, 1-6 or 12, that would refuse this event now, or 0. Nothing
- * changes. */
+/* The check, 1-6 or 12, that would refuse this event now, or 0. It is the same
+ * check for every value up to the largest that the kind takes. */
 uint8_t calugnid_refusal(const uint8_t *state, uint8_t kind, uint16_t value);
+
+/* Whether an event of this kind would be accepted now, with any value up to
+ * the largest that the kind takes: for a frame that is still to come. */
+bool calugnid_ready(const uint8_t *state, uint8_t kind);
+
+/* Whether the controller is locked. */
+bool calugnid_locked(const uint8_t *state);
 
 /* The byte being sent, 0 if nothing is being sent. */
 uint8_t calugnid_sent_byte(const uint8_t *state);
+
+/* The settings of the start: its options less the bits that are not looked at,
+ * and its version byte. The key table stands in the state. */
+uint8_t calugnid_options(const uint8_t *state);
+uint8_t calugnid_version_byte(const uint8_t *state);
 
 /* ---- Without a state. */
 
 /* Runs a list of events on a fresh controller with the settings that `options`
  * names, this version byte and the built-in key table. 0, 7 or 8. */
-uint8_t calugnid_run(uint8_t options, uint8_t version, const uint8_t *list, size_t list_length,
+CALUGNID_WARN_UNUSED
+uint8_t calugnid_run(uint8_t options, uint8_t version,
+                     const uint8_t *list, size_t list_length,
                      uint8_t *answers, size_t answers_length);
 
 /* The same with a key table of the caller's. The checks, in their order: 0, 13,
  * 14, 15, 7 or 8. */
+CALUGNID_WARN_UNUSED
 uint8_t calugnid_run_with_table(uint8_t options, uint8_t version,
                                 const uint8_t *table, size_t table_length,
                                 const uint8_t *list, size_t list_length,
@@ -242,6 +438,7 @@ uint8_t calugnid_table_refusal(const uint8_t *table, size_t table_length);
 /* Loads the image at the end of `image`, runs the list with the ordinary
  * settings, and saves to the first 68 bytes of `saved`. All checks come before
  * anything is written, in the order of their numbers: 0, 7, 8, 9, 10 or 11. */
+CALUGNID_WARN_UNUSED
 uint8_t calugnid_run_image(const uint8_t *image, size_t image_length,
                            const uint8_t *list, size_t list_length,
                            uint8_t *answers, size_t answers_length,
@@ -260,9 +457,52 @@ uint16_t calugnid_judge(uint16_t frame);
 uint16_t calugnid_frame(uint8_t byte);
 
 /* Scan code set 2 to set 1 by the built-in key table: bits 0-7 the byte,
- * CALUGNID_YIELDS where there is one, CALUGNID_BREAK_FLAG where the break flag is
- * set afterwards. */
+ * CALUGNID_YIELDS where there is one, CALUGNID_BREAK_FLAG where the break flag
+ * is set afterwards. */
 uint16_t calugnid_translate(uint8_t byte, bool break_flag);
+
+/* ---- Names, for messages. */
+
+/* What a refusal is called. */
+static inline const char *calugnid_refusal_name(uint8_t refusal)
+{
+    switch (refusal) {
+    case CALUGNID_ACCEPTED: return "accepted";
+    case CALUGNID_BAD_KIND: return "no such kind of event";
+    case CALUGNID_BAD_VALUE: return "value too large";
+    case CALUGNID_SENDING: return "a byte is being sent";
+    case CALUGNID_LOCKED: return "locked";
+    case CALUGNID_NOT_READY: return "not ready for a frame";
+    case CALUGNID_NOT_SENDING: return "nothing is being sent";
+    case CALUGNID_BAD_LIST: return "bad length of a list";
+    case CALUGNID_NO_ROOM: return "no room for the answers";
+    case CALUGNID_NO_SAVE_ROOM: return "no room to save";
+    case CALUGNID_BAD_IMAGE: return "no image";
+    case CALUGNID_BAD_BODY: return "image breaks a body rule";
+    case CALUGNID_NO_MOUSE: return "no mouse in AT mode";
+    case CALUGNID_BAD_TABLE: return "bad length of a key table";
+    case CALUGNID_BAD_KEYS: return "key table is no permutation";
+    case CALUGNID_BAD_FIXED: return "key table changes a fixed entry";
+    default: return "no refusal";
+    }
+}
+
+/* What a kind of event is called. */
+static inline const char *calugnid_kind_name(uint8_t kind)
+{
+    switch (kind) {
+    case CALUGNID_READ_DATA: return "read 60h";
+    case CALUGNID_WRITE_DATA: return "write 60h";
+    case CALUGNID_READ_STATUS: return "read 64h";
+    case CALUGNID_WRITE_COMMAND: return "write 64h";
+    case CALUGNID_KEYBOARD_FRAME: return "keyboard frame";
+    case CALUGNID_MOUSE_FRAME: return "mouse frame";
+    case CALUGNID_BYTE_TAKEN: return "byte taken";
+    case CALUGNID_BYTE_TIMED_OUT: return "byte timed out";
+    case CALUGNID_PINS: return "pins";
+    default: return "no event";
+    }
+}
 
 #ifdef __cplusplus
 }

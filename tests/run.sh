@@ -48,6 +48,25 @@ for language in c cxx; do
     done
 done
 
+# README's C program prints what README says.
+awk '/^```c$/ { on = 1; next } /^```$/ { on = 0 } on' README.md > "$programs/first.c"
+sed -n 's/^It prints `\([^`]*\)`.*/\1/p' README.md > "$programs/first.expected"
+build "$programs/first.c"
+for language in c cxx; do
+    prints "$programs/first.expected" "$programs/first_$language"
+done
+
+# A result that may refuse and is not looked at draws a warning.
+echo '#include "calugnid.h"
+void ignore(uint8_t *state) { calugnid_load(state, state, 0); }' > "$programs/ignored.c"
+for compiler in "cc -x c" "c++ -x c++"; do
+    if $compiler -Werror -Iinclude -c "$programs/ignored.c" -o "$programs/ignored.o" 2> "$programs/said"; then
+        echo "an ignored refusal drew no warning"
+        exit 1
+    fi
+    grep -q 'unused-result' "$programs/said"
+done
+
 # The table of the keypad with 1 2 3 in its upper row, and one that would be refused.
 for language in c cxx; do
     prints examples/upper-123.table "$programs/make_table_$language" 6C 69 75 72 7D 7A

@@ -487,7 +487,8 @@ static void try_pc_at_port(uint8_t options)
     CHECK(leaves(state, CALUGNID_KEYBOARD_FRAME, SOUND, 0x11, 0x95));
     for (unsigned command = 0xF0; command <= 0xFF; command++) {
         calugnid_event(state, CALUGNID_WRITE_COMMAND, (uint8_t)command, answer);
-        CHECK(answer[CALUGNID_ANSWER_PULSE] == 0xFF - command && answer[CALUGNID_ANSWER_P2] == 0x95);
+        CHECK(answer[CALUGNID_ANSWER_PULSE] == 0xFF - command);
+        CHECK(answer[CALUGNID_ANSWER_P2] == 0x95);
     }
     CHECK(reads(state, 0x14, false));
 }
