@@ -1,5 +1,6 @@
 -- "Saved image", byte 1 of the body: seven flags, a bit each.
-use Prim.Native.Nat.{ℕ}
+use Prim.Native.Nat.{ℕ, _/_}
+use mathlib.Core.Path.{_≡_}
 use mathlib.Core.Bool.{Bool}
 use Rattle.translation.specs.Bits.{has}
 
@@ -32,3 +33,8 @@ withBreaks on x = record { full = x .full; mouse = x .mouse; command = x .comman
 
 abbrev pub withLocked : Bool → Flags → Flags
 withLocked on x = record { full = x .full; mouse = x .mouse; command = x .command; terr = x .terr; perr = x .perr; breaks = x .breaks; locked = on }
+
+-- A byte after a change to these flags. Bit 7, which is no flag, is kept.
+pub record Reflagged (x : Flags) (f f′ : ℕ) : Type 0 where
+  pub flags : flagsOf f′ ≡ x
+  pub spare : f′ / 128 ≡ f / 128

@@ -19,7 +19,7 @@ use Rattle.machine.specs.Commands.{overlaid, lockSet}
 use Rattle.machine.specs.Devices.{errorsSet, notTaken, breaking, positioned, lockCleared, pinned}
 use Rattle.machine.specs.Events.{emptied}
 use Rattle.state.specs.Flags as flags
-use Rattle.state.specs.Flags.{Flags, flagsOf}
+use Rattle.state.specs.Flags.{Flags, flagsOf, Reflagged}
 use Rattle.state.specs.View.{stateLength, optionsOf, at, public, view}
 use Rattle.machine.specs.Kept.{Kept}
 use Rattle.state.specs.Changed.{Changed, KeptChange, KeptWhere}
@@ -249,61 +249,58 @@ stored-latched {s} long v {c = c} {d = d} {e = e} isHigh isAll isC isD isE isLow
     ((λ i. lines (isC i) (isD i) (isE i))
     ∙ λ i. lines (cond (isHigh i) (has v 2) (q .p22)) (cond (isHigh i) (has v 3) (q .p23)) (cond (isAll i) (has v 5) (q .p25)))
 
--- ---- flags: f is the flags' byte with some of them replaced
-abbrev pub Reflagged : List ℕ → ℕ → Flags → Type 0
-Reflagged s f x = (flagsOf f ≡ x) × (at s 1 < 128 → f < 128)
-
-tidy-flags : {s : List ℕ} {f : ℕ} → (at s 1 < 128 → f < 128) → Tidy s → Tidy (set s 1 f)
-tidy-flags low t = tidy-set (fits-flags (low (t .flags))) t
+-- ---- flags: f is the flags' byte with some of them replaced and bit 7 kept
+tidy-flags : {s : List ℕ} {x : Flags} {f : ℕ} → Reflagged x (at s 1) f → Tidy s → Tidy (set s 1 f)
+tidy-flags h t = tidy-set (fits-flags (omega (arith, h .spare, t .flags))) t
 
 module _ {s : List ℕ} {f : ℕ} (long : length s ≡ stateLength) where
-  pub stored-put : {b : ℕ} {mouse : Bool} → Reflagged s f (flags.withOutput true mouse (flagsOf (at s 1))) →
+  pub stored-put : {b : ℕ} {mouse : Bool} → Reflagged (flags.withOutput true mouse (flagsOf (at s 1))) (at s 1) f →
       Changed (lift (λ p. withOutput p (record { byte = b; full = true; mouse = mouse }))) s (set (set s 1 f) 0 b)
   stored-put {b} h =
-      changed long (stores.set-output s long f b _ (h .0))
-      (λ t. tidy-set (fits-free 0 refl) (tidy-flags (h .1) t))
+      changed long (stores.set-output s long f b _ (h .flags))
+      (λ t. tidy-set (fits-free 0 refl) (tidy-flags h t))
 
-  pub stored-emptied : Reflagged s f (flags.withOutput false false (flagsOf (at s 1))) → Changed (lift emptied) s (set s 1 f)
-  stored-emptied h = changed long (stores.set-flags s long f _ (h .0)) (tidy-flags (h .1))
+  pub stored-emptied : Reflagged (flags.withOutput false false (flagsOf (at s 1))) (at s 1) f → Changed (lift emptied) s (set s 1 f)
+  stored-emptied h = changed long (stores.set-flags s long f _ (h .flags)) (tidy-flags h)
 
-  pub stored-dataWritten : Reflagged s f (flags.withCommand false (flagsOf (at s 1))) → Changed (lift dataWritten) s (set s 1 f)
-  stored-dataWritten h = changed long (stores.set-flags s long f _ (h .0)) (tidy-flags (h .1))
+  pub stored-dataWritten : Reflagged (flags.withCommand false (flagsOf (at s 1))) (at s 1) f → Changed (lift dataWritten) s (set s 1 f)
+  stored-dataWritten h = changed long (stores.set-flags s long f _ (h .flags)) (tidy-flags h)
 
-  stored-errorFlags : {t e : Bool} → Reflagged s f (flags.withErrors t e (flagsOf (at s 1))) →
+  stored-errorFlags : {t e : Bool} → Reflagged (flags.withErrors t e (flagsOf (at s 1))) (at s 1) f →
       Changed (lift (λ p. withErrors p (record { terr = t; perr = e; ttim = p .errors .ttim }))) s (set s 1 f)
-  stored-errorFlags h = changed long (stores.set-flags s long f _ (h .0)) (tidy-flags (h .1))
+  stored-errorFlags h = changed long (stores.set-flags s long f _ (h .flags)) (tidy-flags h)
 
-  pub stored-errors : {t e : Bool} → Reflagged s f (flags.withErrors t e (flagsOf (at s 1))) →
+  pub stored-errors : {t e : Bool} → Reflagged (flags.withErrors t e (flagsOf (at s 1))) (at s 1) f →
       Changed (lift (errorsSet t e)) s (set (set s 1 f) 63 0)
   stored-errors h = chain (stored-errorFlags h) (stored-timeout (length-set s 1 f ∙ long) false)
 
   pub stored-notTaken : {apart : Bool} {v : ℕ} → apart ≡ atMode (public s) → v ≡ weight 1 apart →
-      Reflagged s f (flags.withErrors (not apart) false (flagsOf (at s 1))) →
+      Reflagged (flags.withErrors (not apart) false (flagsOf (at s 1))) (at s 1) f →
       Changed (lift notTaken) s (set (set s 1 f) 63 v)
   stored-notTaken {apart} isApart isBit h =
       subst (λ (x : ℕ). Changed (lift notTaken) s (set (set s 1 f) 63 x)) (sym isBit)
       (by-two (stored-errorFlags h) (stored-timeout (length-set s 1 f ∙ long) apart) (rw isApart))
 
-  pub stored-breaks : {b : Bool} → Reflagged s f (flags.withBreaks b (flagsOf (at s 1))) → Changed (lift (breaking b)) s (set s 1 f)
-  stored-breaks h = changed long (stores.set-flags s long f _ (h .0)) (tidy-flags (h .1))
+  pub stored-breaks : {b : Bool} → Reflagged (flags.withBreaks b (flagsOf (at s 1))) (at s 1) f → Changed (lift (breaking b)) s (set s 1 f)
+  stored-breaks h = changed long (stores.set-flags s long f _ (h .flags)) (tidy-flags h)
 
-  pub stored-lockSet : Reflagged s f (flags.withLocked true (flagsOf (at s 1))) → Changed lockSet s (set (set s 1 f) 11 0)
+  pub stored-lockSet : Reflagged (flags.withLocked true (flagsOf (at s 1))) (at s 1) f → Changed lockSet s (set (set s 1 f) 11 0)
   stored-lockSet h =
-      changed long (stores.set-lockSet s long f _ (h .0)) (λ t. tidy-set (fits-free 11 refl) (tidy-flags (h .1) t))
+      changed long (stores.set-lockSet s long f _ (h .flags)) (λ t. tidy-set (fits-free 11 refl) (tidy-flags h t))
 
-  pub stored-lockCleared : Reflagged s f (flags.withLocked false (flagsOf (at s 1))) → Changed lockCleared s (set (set s 1 f) 11 0)
+  pub stored-lockCleared : Reflagged (flags.withLocked false (flagsOf (at s 1))) (at s 1) f → Changed lockCleared s (set (set s 1 f) 11 0)
   stored-lockCleared h =
-      changed long (stores.set-lockSet s long f _ (h .0)) (λ t. tidy-set (fits-free 11 refl) (tidy-flags (h .1) t))
+      changed long (stores.set-lockSet s long f _ (h .flags)) (λ t. tidy-set (fits-free 11 refl) (tidy-flags h t))
 
   -- a command written: flags, pending code, cell, and no overlay
-  pub stored-command : {code cell : ℕ} → Reflagged s f (flags.withCommand true (flagsOf (at s 1))) →
+  pub stored-command : {code cell : ℕ} → Reflagged (flags.withCommand true (flagsOf (at s 1))) (at s 1) f →
       Changed (lift (λ p. withHost p (afterCommand code cell))) s (set (set (set (set (set s 1 f) 4 code) 5 cell) 6 0) 7 0)
   stored-command {code} {cell} h =
       changed long
-      (stores.set-command s long f code cell _ (h .0))
+      (stores.set-command s long f code cell _ (h .flags))
       (λ t.
       tidy-set (fits-free 7 refl)
-      (tidy-set (fits-overlay (omega arith)) (tidy-set (fits-free 5 refl) (tidy-set (fits-free 4 refl) (tidy-flags (h .1) t)))))
+      (tidy-set (fits-overlay (omega arith)) (tidy-set (fits-free 5 refl) (tidy-set (fits-free 4 refl) (tidy-flags h t)))))
 
 -- ---- the lock code
 module _ {s : List ℕ} (long : length s ≡ stateLength) where

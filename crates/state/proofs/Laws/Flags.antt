@@ -1,15 +1,15 @@
 -- The flags of a byte after some of its bits are replaced: a test that is computed at each of the 256 bytes. Assumes nothing.
 use Prim.Native.Nat.{ℕ, _+_, _*_, _/_, _%_, _<_}
-use mathlib.Core.Path.{_≡_, refl, _∙_}
+use mathlib.Core.Path.{_≡_, refl}
 use mathlib.Core.Bool.{Bool, true, false, not, _&&_, false≢true}
-use lib.Dec.{ltb}
-use borrow.Author.Tests.{ltb-true, lt-ltb}
+use lib.Dec.{eqb}
+use borrow.Author.Tests.{eqb-true}
 use Rattle.translation.proofs.Tests.{and-true, every, every-below}
 use Rattle.translation.specs.Bits.{has, weight}
 use Rattle.machine.specs.State.{Public}
 use Rattle.machine.proofs.Laws.Bits.{lines-0, lines-1, lines-2, lines-3, lines-4, lines-5, lines-6, lines-below}
 use Rattle.state.specs.View.{flags}
-use Rattle.state.specs.Flags.{Flags, flagsOf, withOutput, withCommand, withErrors, withBreaks, withLocked}
+use Rattle.state.specs.Flags.{Flags, flagsOf, withOutput, withCommand, withErrors, withBreaks, withLocked, Reflagged}
 
 abbrev agree : Bool → Bool → Bool
 agree true b = b
@@ -59,16 +59,16 @@ same-true x y e =
 
 -- a change of the byte that does to the flags what g says and leaves bit 7 alone
 abbrev Does : (ℕ → ℕ) → (Flags → Flags) → Type 0
-Does change g = (f : ℕ) → f < 256 → (flagsOf (change f) ≡ g (flagsOf f)) × (f < 128 → change f < 128)
+Does change g = (f : ℕ) → f < 256 → Reflagged (g (flagsOf f)) f (change f)
 
 abbrev does : (ℕ → ℕ) → (Flags → Flags) → ℕ → Bool
-does change g f = same (flagsOf (change f)) (g (flagsOf f)) && agree (ltb (change f) 128) (ltb f 128)
+does change g f = same (flagsOf (change f)) (g (flagsOf f)) && eqb (change f / 128) (f / 128)
 
 -- it is one where the test passes at each byte
 by-test : (change : ℕ → ℕ) (g : Flags → Flags) → every (does change g) 256 ≡ true → Does change g
 by-test change g passed f h =
     let both = and-true _ _ (every-below (does change g) 256 passed f h) in
-    (same-true _ _ (both .0), λ low. ltb-true (change f) 128 (agree-true _ _ (both .1) ∙ lt-ltb f 128 low))
+    record { flags = same-true _ _ (both .0); spare = eqb-true _ _ (both .1) }
 
 pub output-flags : (x y : Bool) → Does (λ f. f / 4 * 4 + weight 1 x + weight 2 y) (withOutput x y)
 output-flags true true = by-test (λ f. f / 4 * 4 + 1 + 2) (withOutput true true) refl
