@@ -1,10 +1,11 @@
 // The image at the end of a caller's bytes, as `image_bytes` finds it.
 ghost use mathlib.Core.Path.{_≡_};
 ghost use Rattle.image_bytes.specs.Find as spec;
+ghost use Rattle.image_bytes.specs.Find.{BodyFound};
 
-// The body that the trailer points back to, as a part of the caller's bytes; an empty part if check 10 refuses them.
+// The body that the trailer points back to, as a part of the caller's bytes; an empty part, at their end, if check 10 refuses them.
 pub fn find(bytes: &[u8]) -> &[u8]
-    ensures { λ r. ⌜ now r ≡ spec.found (now (bytes .entry)) ⌝ }
+    ensures { λ r. ⌜ BodyFound (now (bytes .entry)) (bytes .entry .ptr) (now r) (r .ptr) ⌝ }
 {
     image_bytes::find::find(bytes)
 }

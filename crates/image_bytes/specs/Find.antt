@@ -1,5 +1,6 @@
 -- "Saved image", the finder: a load takes the last bytes, and check 10 judges their trailer.
 use Prim.Native.Nat.{ℕ, _+_, _-_}
+use mathlib.Core.Path.{_≡_}
 use mathlib.Core.Bool.{Bool, cond, _&&_}
 use mathlib.Core.List.{List, []}
 use lib.ListN.{length, getD, take, drop}
@@ -46,3 +47,12 @@ found bytes = cond (ends 1 bodyLength bytes) (bodyOf bodyLength bytes) []
 -- Where the body starts, or the length where there is none.
 unfoldable pub bodyStart : List ℕ → ℕ
 bodyStart bytes = cond (ends 1 bodyLength bytes) (length bytes - imageLength) (length bytes)
+
+-- A place is a block of memory and an offset in it; this one is k bytes further on.
+abbrev pub further : ℕ × ℕ → ℕ → ℕ × ℕ
+further place k = (place .0, k + place .1)
+
+-- The body as a part of the bytes that a caller lent: which bytes it holds, and where it lies, counted from the place of the bytes.
+pub record BodyFound (bytes : List ℕ) (lent : ℕ × ℕ) (part : List ℕ) (place : ℕ × ℕ) : Type 0 where
+  pub contents : part ≡ found bytes
+  pub start : place ≡ further lent (bodyStart bytes)

@@ -1,7 +1,6 @@
 // The image at the end of a caller's bytes.
 use crate::layout::BODY;
 use crate::layout::EDITION;
-use crate::layout::IMAGE;
 use crate::layout::TRAILER;
 use crate::sum::word_sum;
 use translation::bits::word;
@@ -9,6 +8,7 @@ ghost use mathlib.Core.Path.{_≡_};
 ghost use Prim.Native.Nat.{_+_, _≤_};
 ghost use lib.ListN.{length, drop};
 ghost use Rattle.image_bytes.specs.Find as spec;
+ghost use Rattle.image_bytes.specs.Find.{BodyFound};
 
 // The mark of a trailer that starts at `at`.
 fn marked(bytes: &[u8], at: usize) -> bool
@@ -37,26 +37,26 @@ fn ends(bytes: &[u8], edition: u8, size: usize) -> bool
     marked(bytes, at) & ((bytes[at + 4] == edition) & ((distance == size) & (stored == total)))
 }
 
-// The body that the trailer points back to, as a part of the caller's bytes; an empty part if check 10 refuses them.
-pub fn find(bytes: &[u8]) -> &[u8]
-    ensures { λ r. ⌜ now r ≡ spec.found (now (bytes .entry)) ⌝ }
-{
-    if !ends(bytes, EDITION, BODY) {
-        return &bytes[..0];
-    }
-    let at = bytes.len() - TRAILER;
-    let distance = word(bytes[at], bytes[at + 1]) as usize;
-    let start = at - distance;
-    &bytes[start..at]
-}
-
-// Where that body starts, or the length of the bytes if check 10 refuses them.
+// Where the body starts that the trailer points back to, or the length of the bytes if check 10 refuses them.
 pub fn body_start(bytes: &[u8]) -> usize
     ensures { λ r. ⌜ r ≡ spec.bodyStart (now (bytes .entry)) ⌝ }
 {
-    let body = find(bytes);
-    if body.len() == 0 {
+    if !ends(bytes, EDITION, BODY) {
         return bytes.len();
     }
-    bytes.len() - IMAGE
+    let at = bytes.len() - TRAILER;
+    let distance = word(bytes[at], bytes[at + 1]) as usize;
+    at - distance
+}
+
+// That body as a part of the caller's bytes; an empty part, at their end, if check 10 refuses them.
+pub fn find(bytes: &[u8]) -> &[u8]
+    ensures { λ r. ⌜ BodyFound (now (bytes .entry)) (bytes .entry .ptr) (now r) (r .ptr) ⌝ }
+{
+    let start = body_start(bytes);
+    if start == bytes.len() {
+        return &bytes[start..];
+    }
+    let end = bytes.len() - TRAILER;
+    &bytes[start..end]
 }

@@ -12,7 +12,7 @@ use borrow.Author.Tests.{le-leb, lt-leb, eq-eqb, leb-true, eqb-true}
 use Rattle.translation.specs.Bits.{word}
 use Rattle.image_bytes.specs.Sum.{wordSum}
 use Rattle.image_bytes.specs.Layout.{bodyLength, imageLength}
-use Rattle.image_bytes.specs.Find.{trailerOf, bodyOf, distanceOf, sumOf, editionOf, marked, ends, found, bodyStart}
+use Rattle.image_bytes.specs.Find.{trailerOf, bodyOf, distanceOf, sumOf, editionOf, marked, ends, found, bodyStart, further, BodyFound}
 use Rattle.translation.proofs.Tests.{split, and-true}
 use Rattle.translation.proofs.Lists.{length-part}
 use Rattle.image_bytes.proofs.Laws.Tests.{and-passed, and-failed, and-both, cond-true, cond-false}
@@ -109,10 +109,6 @@ module _ (bytes : List ℕ) {b : List ℕ} (here : b ≡ found bytes) where
       (λ e. absurd (omega (arith, none, ap length here, length-found bytes e)))
       (λ e. e)
 
-  pub bodyStart-none : length b ≡ 0 → bodyStart bytes ≡ length bytes
-  unfolding bodyStart
-  bodyStart-none none = cond-false _ _ _ (none-ends none)
-
   module _ (some : length b ≡ 0 → ⊥) where
     pub some-ends : ends 1 bodyLength bytes ≡ true
     some-ends = split (ends 1 bodyLength bytes) (λ e. e) (λ e. absurd (some (ap length (here ∙ found-none bytes e))))
@@ -120,9 +116,55 @@ module _ (bytes : List ℕ) {b : List ℕ} (here : b ≡ found bytes) where
     pub some-long : length b ≡ bodyLength
     some-long = ap length here ∙ length-found bytes some-ends
 
-    pub some-room : imageLength ≤ length bytes
-    some-room = ends-sealed 1 bodyLength bytes some-ends .room
+-- ---- bodyStart
+pub bodyStart-none : (bytes : List ℕ) → ends 1 bodyLength bytes ≡ false → bodyStart bytes ≡ length bytes
+unfolding bodyStart
+bodyStart-none bytes e = cond-false _ _ _ e
 
-    pub bodyStart-some : bodyStart bytes ≡ length bytes - imageLength
-    unfolding bodyStart
-    bodyStart-some = cond-true _ _ _ some-ends
+pub bodyStart-body : (bytes : List ℕ) → ends 1 bodyLength bytes ≡ true → bodyStart bytes ≡ length bytes - imageLength
+unfolding bodyStart
+bodyStart-body bytes e = cond-true _ _ _ e
+
+-- the trailer points back to it
+pub bodyStart-pointed : (bytes : List ℕ) {distance : ℕ} → Sealed 1 bodyLength bytes → distance ≡ bodyLength →
+    bodyStart bytes ≡ length bytes - 8 - distance
+bodyStart-pointed bytes s back = bodyStart-body bytes (sealed-ends 1 bodyLength bytes s) ∙ omega (arith, back)
+
+-- a start that was found: the length exactly where check 10 refuses the bytes
+module _ (bytes : List ℕ) {start : ℕ} (here : start ≡ bodyStart bytes) where
+  module _ (past : start ≡ length bytes) where
+    pub past-ends : ends 1 bodyLength bytes ≡ false
+    past-ends =
+        split (ends 1 bodyLength bytes)
+        (λ e. absurd (omega (arith, past, here, bodyStart-body bytes e, ends-sealed 1 bodyLength bytes e .room)))
+        (λ e. e)
+
+  module _ (before : start ≡ length bytes → ⊥) where
+    start-ends : ends 1 bodyLength bytes ≡ true
+    start-ends = split (ends 1 bodyLength bytes) (λ e. e) (λ e. absurd (before (here ∙ bodyStart-none bytes e)))
+
+    pub start-room : (start ≡ length bytes - imageLength) × (imageLength ≤ length bytes)
+    start-room = (here ∙ bodyStart-body bytes start-ends, ends-sealed 1 bodyLength bytes start-ends .room)
+
+-- ---- BodyFound, with the place of the part as the rule of a part gives it
+module _ {bytes : List ℕ} {lent : ℕ × ℕ} {start : ℕ} (here : start ≡ bodyStart bytes) where
+  pub found-nowhere : {place : ℕ × ℕ} → start ≡ length bytes → place ≡ further lent start →
+      BodyFound bytes lent (take (length bytes - start) (drop start bytes)) place
+  found-nowhere past at =
+      let none : length bytes - start ≡ 0 = omega arith in
+      record {
+        contents = ap (λ (k : ℕ). take k (drop start bytes)) none ∙ sym (found-none bytes (past-ends bytes here past));
+        start = at ∙ ap (further lent) here;
+      }
+
+  pub found-there : {place : ℕ × ℕ} → (start ≡ length bytes → ⊥) → place ≡ further lent start →
+      BodyFound bytes lent (take (length bytes - 8 - start) (drop start bytes)) place
+  found-there before at =
+      let e = start-ends bytes here before in
+      let back : start ≡ length bytes - 8 - bodyLength = start-room bytes here before .0 ∙ omega arith in
+      record {
+        contents =
+            ap (λ (k : ℕ). take (length bytes - 8 - k) (drop k bytes)) back
+            ∙ bodyOf-part bodyLength bytes (ends-sealed 1 bodyLength bytes e .room) ∙ sym (found-body bytes e);
+        start = at ∙ ap (further lent) here;
+      }

@@ -11,13 +11,13 @@ find-requires : tie.Need-find-requires
 find-requires c κs = search needs
 
 returns : tie.Need-returns
-returns c = load-none (c .before .find .ensures) (c .if1 .taken)
+returns c = load-none (c .before .find .ensures .contents) (c .if1 .taken)
 
 slice-aggregate-copy : tie.Need-slice-aggregate-copy
 slice-aggregate-copy c = search needs
 
 copy-requires : tie.Need-copy-requires
-copy-requires c κs = omega (arith, some-long _ (c .before .before .find .ensures) (c .before .if1 .left))
+copy-requires c κs = omega (arith, some-long _ (c .before .before .find .ensures .contents) (c .before .if1 .left))
 
 body-kept-requires : tie.Need-body-kept-requires
 body-kept-requires c κs = search needs
@@ -26,7 +26,7 @@ returns-2 : tie.Need-returns-2
 returns-2 c =
     let taken = c .before .before .before .before in
     let some = taken .before .before in
-    load-broken (some .before .find .ensures) (some .if1 .left) (taken .copy .ensures .1) (c .before .body-kept .ensures) (c .if2 .taken)
+    load-broken (some .before .find .ensures .contents) (some .if1 .left) (taken .copy .ensures .1) (c .before .body-kept .ensures) (c .if2 .taken)
 
 ordinary-requires : tie.Need-ordinary-requires
 ordinary-requires c κs = search needs
@@ -47,7 +47,7 @@ returns-3 c =
     let taken = kept .before .before .before .before in
     let some = taken .before .before in
     let found = some .before in
-    load-stored (found .find .ensures) (some .if1 .left) (taken .copy .ensures .1) (λ k. found .before .shared-slice-known .given k .fits)
+    load-stored (found .find .ensures .contents) (some .if1 .left) (taken .copy .ensures .1) (λ k. found .before .shared-slice-known .given k .fits)
     (kept .before .body-kept .ensures)
     (kept .if2 .left)
     (started .before .ordinary .ensures)
