@@ -1,55 +1,128 @@
-// A list of events: each writes its nine answer bytes, and the rest of the answer buffer goes to the next.
+// A list of events: each writes its nine answer bytes, and the rest of the answer buffer is lent to the next.
 use crate::events::respond;
 use state::settings::Settings;
 use state::state::State;
 use state::state::start;
 ghost use mathlib.Core.Path.{_≡_};
-ghost use Prim.Native.Nat.{_≤_};
+ghost use Prim.Native.Nat.{_≤_, _<_};
 ghost use lib.ListN.{length};
 ghost use Rattle.machine.specs.Events as events;
 ghost use Rattle.machine.specs.Events.{event};
 ghost use Rattle.machine.specs.Run.{first, lengthRefusal};
 ghost use Rattle.state.specs.View.{public, named};
 ghost use Rattle.controller.specs.Promises.{EventAnswered, FittingRun, ListRun, FreshRun};
-ghost use Rattle.controller.specs.Steps.{EventWritten, EventsRun};
+ghost use Rattle.controller.specs.Steps.{EventWritten, pieceEnd};
 
 // The longest list that a call takes, in bytes.
 const LIST_MOST: usize = 21000;
 
+// The most that one recursion runs: 500 events, in bytes of the list and of their answers.
+const PIECE: usize = 1500;
+
+const PIECE_ANSWERS: usize = 4500;
+
 // The first event of a list, and its answer at the front of the buffer.
-fn run_first(s: &mut State, list: &[u8], answers: &mut [u8])
+fn run_one(s: &mut State, list: &[u8], answers: &mut [u8])
     requires { ⌜ (3 ≤ length (now list)) × (9 ≤ length (now answers)) ⌝ }
     ensures { λ _. ⌜ EventWritten (now (s .entry)) (first (now (list .entry))) (now (answers .entry)) (now (s .exit)) (now (answers .exit)) ⌝ }
 {
     respond(s, list[0], list[1], list[2], answers);
 }
 
-// A list of any length, as far as the buffer has room: each event writes its nine bytes, and the rest of the buffer is lent to the next.
-fn run_events(s: &mut State, list: &[u8], answers: &mut [u8])
-    ensures { λ _. ⌜ EventsRun (now (s .entry)) (now (list .entry)) (now (answers .entry)) (now (s .exit)) (now (answers .exit)) ⌝ }
+// Four events make a level of the recursion, so that its test and its call cost each of them a quarter. Each lends the rest of list and buffer on.
+fn run_first(s: &mut State, list: &[u8], answers: &mut [u8])
+    requires { ⌜ (12 ≤ length (now list)) × (36 ≤ length (now answers)) ⌝ }
+    ensures { λ _. ⌜ FittingRun (now (s .entry)) (now (list .entry)) (now (answers .entry)) (now (s .exit)) (now (answers .exit)) ⌝ }
 {
-    let mut done = 0;
-    let mut written = 0;
-    while (3 <= list.len() - done) & (9 <= answers.len() - written) {
-        run_first(s, &list[done..], &mut answers[written..]);
-        done += 3;
-        written += 9;
+    run_one(s, list, answers);
+    run_second(s, &list[3..], &mut answers[9..]);
+}
+
+fn run_second(s: &mut State, list: &[u8], answers: &mut [u8])
+    requires { ⌜ (9 ≤ length (now list)) × (27 ≤ length (now answers)) ⌝ }
+    ensures { λ _. ⌜ FittingRun (now (s .entry)) (now (list .entry)) (now (answers .entry)) (now (s .exit)) (now (answers .exit)) ⌝ }
+{
+    run_one(s, list, answers);
+    run_third(s, &list[3..], &mut answers[9..]);
+}
+
+fn run_third(s: &mut State, list: &[u8], answers: &mut [u8])
+    requires { ⌜ (6 ≤ length (now list)) × (18 ≤ length (now answers)) ⌝ }
+    ensures { λ _. ⌜ FittingRun (now (s .entry)) (now (list .entry)) (now (answers .entry)) (now (s .exit)) (now (answers .exit)) ⌝ }
+{
+    run_one(s, list, answers);
+    run_fourth(s, &list[3..], &mut answers[9..]);
+}
+
+fn run_fourth(s: &mut State, list: &[u8], answers: &mut [u8])
+    requires { ⌜ (3 ≤ length (now list)) × (9 ≤ length (now answers)) ⌝ }
+    ensures { λ _. ⌜ FittingRun (now (s .entry)) (now (list .entry)) (now (answers .entry)) (now (s .exit)) (now (answers .exit)) ⌝ }
+{
+    run_one(s, list, answers);
+    run_on(s, &list[3..], &mut answers[9..]);
+}
+
+// What is left: four events, where there are so many and room for their answers, else one.
+fn run_on(s: &mut State, list: &[u8], answers: &mut [u8])
+    ensures { λ _. ⌜ FittingRun (now (s .entry)) (now (list .entry)) (now (answers .entry)) (now (s .exit)) (now (answers .exit)) ⌝ }
+{
+    if (12 <= list.len()) & (36 <= answers.len()) {
+        run_first(s, list, answers);
+        return;
+    }
+    if (3 <= list.len()) & (9 <= answers.len()) {
+        run_fourth(s, list, answers);
     }
 }
 
-// A list of any length, as far as the buffer has room.
+// A list of one event, with no recursion.
+fn run_last(s: &mut State, list: &[u8], answers: &mut [u8])
+    requires { ⌜ length (now list) < 6 ⌝ }
+    ensures { λ _. ⌜ FittingRun (now (s .entry)) (now (list .entry)) (now (answers .entry)) (now (s .exit)) (now (answers .exit)) ⌝ }
+{
+    if (3 <= list.len()) & (9 <= answers.len()) {
+        run_one(s, list, answers);
+    }
+}
+
+// Where a piece ends that starts at some byte of a list.
+fn piece_end(done: usize, list: usize) -> usize
+    requires { ⌜ done ≤ list ⌝ }
+    ensures { λ r. ⌜ (r ≡ pieceEnd list done) × (done ≤ r) × (r ≤ list) ⌝ }
+{
+    if list - done < PIECE {
+        list
+    } else {
+        done + PIECE
+    }
+}
+
+// A list of any length, as far as the buffer has room: in pieces, so that the stack is never more than one of them needs.
 pub fn run_fitting(s: &mut State, list: &[u8], answers: &mut [u8])
     ensures { λ _. ⌜ FittingRun (now (s .entry)) (now (list .entry)) (now (answers .entry)) (now (s .exit)) (now (answers .exit)) ⌝ }
 {
-    run_events(s, list, answers);
+    if list.len() < 6 {
+        run_last(s, list, answers);
+        return;
+    }
+    let mut done = 0;
+    let mut written = 0;
+    loop {
+        let end = piece_end(done, list.len());
+        run_on(s, &list[done..end], &mut answers[written..]);
+        if (list.len() == end) | (answers.len() - written < PIECE_ANSWERS) {
+            return;
+        }
+        done = end;
+        written += PIECE_ANSWERS;
+    }
 }
 
-// One event from any state, and its nine answer bytes: a list of one.
+// One event from any state, and its nine answer bytes.
 pub fn event(s: &mut State, kind: u8, low: u8, high: u8, answer: &mut [u8; 9])
     ensures { λ _. ⌜ EventAnswered (now (s .entry)) (event kind low high) (now (s .exit)) (now (answer .exit)) ⌝ }
 {
-    let list = [kind, low, high];
-    run_events(s, &list, answer);
+    respond(s, kind, low, high, answer);
 }
 
 // What the lines show with no event. An event of no kind is refused, so its answer has the lines as they are.
@@ -71,7 +144,7 @@ pub fn list_refusal(list: usize, space: usize) -> u8
     if LIST_MOST < list {
         return 7;
     }
-    if space < list / 3 * 9 { 8 } else { 0 }
+    if space < list * 3 { 8 } else { 0 }
 }
 
 // A list of at most 7,000 events, each answered: 0, or the number of the check that refuses the call.

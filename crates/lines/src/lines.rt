@@ -21,7 +21,7 @@ use state::state::TTIM;
 use state::state::sized;
 ghost use mathlib.Core.Path.{_≡_};
 ghost use mathlib.Core.Bool.{false};
-ghost use Prim.Native.Nat.{_*_, _≤_};
+ghost use Prim.Native.Nat.{_+_, _*_, _≤_};
 ghost use lib.ListN.{getD};
 ghost use Rattle.machine.specs.State.{lift};
 ghost use Rattle.translation.specs.Bits as bits;
@@ -175,16 +175,16 @@ fn overlay_shown(s: &State) -> u8
     }
 }
 
-// Bits 4-7 of the status.
-fn high_status(s: &State) -> u8
-    ensures { λ r. ⌜ (r ≡ 16 * lines.highNibble (public (now (s .entry)))) × (r ≤ 240) ⌝ }
+// Bits 4-7 of the status, with this bit 5.
+fn high_status(s: &State, bit_5: bool) -> u8
+    ensures { λ r. ⌜ (r ≡ 16 * lines.highWith bit_5 (public (now (s .entry)))) × (r ≤ 240) ⌝ }
 {
     if s[OVERLAY] == 1 {
         overlay_shown(s)
     } else {
         upper(
             key_switch(s),
-            status_bit_5(s),
+            bit_5,
             s[FLAGS] / 8 % 2 == 1,
             s[FLAGS] / 16 % 2 == 1,
         )
@@ -200,7 +200,7 @@ pub fn status(s: &State) -> u8
         s[MODE] / 4 % 2 == 1,
         s[FLAGS] / 4 % 2 == 1,
     )
-        + high_status(s)
+        + high_status(s, status_bit_5(s))
 }
 
 // KIRQ or MIRQ: a full buffer, while the interrupt of the device that its byte came from is enabled.
@@ -255,6 +255,43 @@ pub fn output_port(s: &State) -> u8
     ensures { λ r. ⌜ r ≡ lines.outputPort (public (now (s .entry))) ⌝ }
 {
     if at_mode(s) { at_port(s) } else { ps2_port(s) }
+}
+
+// Status and output port.
+pub struct Shown {
+    pub status: u8,
+    pub port: u8,
+}
+
+// Status without IBF, and output port, in PS/2 mode: by cases of what the output buffer holds, so that no line is asked for twice.
+pub fn ps2_shown(s: &State) -> Shown
+    ensures { λ r. ⌜ (let p = public (now (s .entry)) in (lines.atMode p ≡ false → (r .status + bits.weight 2 (lines.inputFull p) ≡ lines.status p) × (r .port ≡ lines.outputPort p)) × (r .status ≤ 253)) ⌝ }
+{
+    let low = nibble(false, false, s[MODE] / 4 % 2 == 1, s[FLAGS] / 4 % 2 == 1);
+    let port = nibble(
+        s[LATCHES] / 1 % 2 == 1,
+        s[LATCHES] / 2 % 2 == 1,
+        false,
+        mouse_off(s),
+    )
+        + weight(64, keyboard_off(s));
+    if !output_full(s) {
+        return Shown {
+            status: low + high_status(s, false),
+            port,
+        };
+    }
+    if from_mouse(s) {
+        Shown {
+            status: low + 1 + high_status(s, true),
+            port: port + weight(32, s[MODE] / 2 % 2 == 1),
+        }
+    } else {
+        Shown {
+            status: low + 1 + high_status(s, false),
+            port: port + weight(16, s[MODE] / 1 % 2 == 1),
+        }
+    }
 }
 
 // A byte for the host to read, from the keyboard or the controller itself.

@@ -90,11 +90,14 @@ overlayShown p =
     let n = p .host .nibble in
     cond (secondSet p) (nibble (keySwitch p) (has n 1) (has n 2) (has n 3)) (n % 16)
 
--- Status bits 4-7: P1 bit 7, bit 5 as above, TERR, PERR; or the overlay.
-unfoldable pub highNibble : Public → ℕ
-highNibble p =
+-- Status bits 4-7 with some bit 5: P1 bit 7, that bit, TERR, PERR; or the overlay.
+abbrev pub highWith : Bool → Public → ℕ
+highWith five p =
     cond (p .host .overlay) (overlayShown p)
-    (nibble (keySwitch p) (statusBit5 p) (p .errors .terr) (p .errors .perr))
+    (nibble (keySwitch p) five (p .errors .terr) (p .errors .perr))
+
+unfoldable pub highNibble : Public → ℕ
+highNibble p = highWith (statusBit5 p) p
 
 -- Status: bit 0 OBF, 1 IBF, 2 SYS, 3 C, and bits 4-7.
 unfoldable pub status : Public → ℕ

@@ -1,11 +1,11 @@
 -- From single events to the run of a list, and to the promises of the calls. Assumes nothing.
-use Prim.Native.Nat.{ℕ, _+_, _-_, _≤_, _<_}
+use Prim.Native.Nat.{ℕ, _+_, _*_, _-_, _≤_, _<_}
 use mathlib.Core.Path.{_≡_, refl, ap, ap₂, sym, subst, _∙_}
 use mathlib.Core.List.{List, [], _∷_, _++_, append-assoc, append-nil}
-use mathlib.Core.Bool.{true, false, _&&_}
+use mathlib.Core.Bool.{true, false, _&&_, _||_, true≢false}
 use native.Mathlib.Omega.{arith}
-use lib.Dec.{leb}
-use borrow.Author.Tests.{leb-true, leb-false}
+use lib.Dec.{leb, ltb, eqb}
+use borrow.Author.Tests.{leb-true, leb-false, ltb-true, ltb-false, eqb-true, eq-eqb}
 use Rattle.translation.proofs.Tests.{split, and-true}
 use lib.ListN.{length, set, take, drop, length-drop, length-append, length-take, drop-of-length-le, take-append-drop}
 use lib.Seq.{take-at, drop-at, drop-drop, take-append-add}
@@ -20,9 +20,10 @@ use Rattle.machine.proofs.Laws.Events.{reply-refused, refusal-kind}
 use Rattle.machine.proofs.Laws.Kept.{keeps}
 use Rattle.state.proofs.Laws.Changed.{chain, by-rule, untouched}
 use Rattle.translation.proofs.Lists.{take-rest, handed, handed-back}
-use Rattle.machine.proofs.Laws.Run.{length-answer, after-kept, fitting-short, fitting-tight, fitting-more, fitting-all, filled-none, filled-more}
+use Rattle.machine.proofs.Laws.Run.{length-answer, length-answers, after-kept, after-append, filled-none, filled-more, filled-append}
+use Rattle.machine.proofs.Laws.Run.{fitting-short, fitting-tight, fitting-more, fitting-all, length-piece, fitting-piece, fitting-split, fitting-cut}
 use Rattle.controller.specs.Promises.{EventAnswered, FittingRun, ListRun, FreshRun}
-use Rattle.controller.specs.Steps.{EventWritten, EventsRun}
+use Rattle.controller.specs.Steps.{EventWritten, pieceEnd}
 
 -- ---- FittingRun: a change by the events that fit, and the buffer
 fitting-run : {s s′ list space space′ : List ℕ} → Changed (λ m. after m (fitting list space)) s s′ → space′ ≡ filled (view s) (fitting list space) space →
@@ -64,6 +65,67 @@ module _ {s n list space mid : List ℕ} (h : 3 ≤ length list) (room : 9 ≤ l
       ∙ ap (λ (k : Machine). filled k es (drop 9 space)) (one .change .machine))
       ∙ filled-more m e es space ∙ ap (λ (fs : List Event). filled m fs space) (sym all))
 
+  -- the rest of both, as it is lent to the next event
+  pub run-rest : {r ys : List ℕ} → FittingRun n (take (length list - 3) (drop 3 list)) (take (length mid - 9) (drop 9 mid)) r ys →
+      FittingRun s list space r (handed 9 mid ys)
+  run-rest {r} {ys} lent =
+      let more : FittingRun n (drop 3 list) (drop 9 mid) r ys = rw (take-rest 3 list, take-rest 9 mid) at lent in
+      rw (handed-back 9 mid ys) (run-more more)
+
+  -- no event stands behind it
+  pub run-last : length list < 6 → FittingRun s list space n mid
+  run-last short =
+      subst (λ (d : List ℕ). FittingRun s list space n d) (take-append-drop 9 mid)
+      (run-more (run-none (fitting-short (drop 3 list) (drop 9 mid) (simp length-drop (omega arith)))))
+
+-- both tests of a level passed
+pub both-le : {a b c d : ℕ} → (leb a b && leb c d) ≡ true → (a ≤ b) × (c ≤ d)
+both-le {a} {b} {c} {d} passed =
+    let both = and-true (leb a b) (leb c d) passed in
+    (leb-true a b (both .0), leb-true c d (both .1))
+
+-- no event is left, or no room for its answer
+pub run-over : {s list space : List ℕ} → (leb 3 (length list) && leb 9 (length space)) ≡ false → FittingRun s list space s space
+run-over {s} {list} {space} ended =
+    run-none
+    (split (leb 3 (length list))
+    (λ more.
+    let tight : leb 9 (length space) ≡ false = simp more at ended in
+    fitting-tight list space (leb-false 9 (length space) tight))
+    (λ short. fitting-short list space (leb-false 3 (length list) short)))
+
+-- a run goes by the events that fit
+run-same : {s r list list′ space ys : List ℕ} → fitting list space ≡ fitting list′ space → FittingRun s list space r ys → FittingRun s list′ space r ys
+run-same {s} {space = space} same run =
+    fitting-run (by-rule (run-change run) (ap (after (view s)) same)) (run .buffer ∙ ap (λ (es : List Event). filled (view s) es space) same)
+
+-- a piece of n events that all have room, and what the rest makes of the buffer behind their answers
+run-pieces : (n : ℕ) {s t r list space mid ys : List ℕ} → 3 * n ≤ length list → 9 * n ≤ length space →
+    FittingRun s (take (3 * n) list) space t mid →
+    FittingRun t (drop (3 * n) list) (drop (9 * n) mid) r ys →
+    FittingRun s list space r (take (9 * n) mid ++ ys)
+unfolding filled
+run-pieces n {s} {t} {r} {list} {space} {mid} {ys} some room one more =
+    let m = view s in
+    let es = events (take (3 * n) list) in
+    let count = length-piece n list space some in
+    let long : length (answers m es) ≡ 9 * n = length-answers m es ∙ omega (arith, count) in
+    let fits = fitting-piece n list space some room in
+    let told : mid ≡ answers m es ++ drop (9 * n) space =
+    one .buffer ∙ ap (λ (fs : List Event). filled m fs space) fits ∙ ap (λ (k : ℕ). answers m es ++ drop (9 * k) space) count in
+    let rest : drop (9 * n) mid ≡ drop (9 * n) space = ap (drop (9 * n)) told ∙ drop-at (answers m es) (drop (9 * n) space) (9 * n) long in
+    let fs = fitting (drop (3 * n) list) (drop (9 * n) space) in
+    let all = fitting-split n list space some room in
+    let same : fitting (drop (3 * n) list) (drop (9 * n) mid) ≡ fs = ap (fitting (drop (3 * n) list)) rest in
+    let piece : Changed (λ k. after k es) s t = by-rule (run-change one) (ap (after m) fits) in
+    fitting-run
+    (by-rule (chain piece (run-change more)) (ap (after (after m es)) same ∙ sym (after-append m es fs) ∙ ap (after m) (sym all)))
+    (ap₂ (λ (a b : List ℕ). a ++ b) (ap (take (9 * n)) told ∙ take-at (answers m es) (drop (9 * n) space) (9 * n) long)
+    (more .buffer ∙ ap (λ (gs : List Event). filled (view t) gs (drop (9 * n) mid)) same ∙ ap (filled (view t) fs) rest
+    ∙ ap (λ (k : Machine). filled k fs (drop (9 * n) space)) (piece .machine))
+    ∙ ap (λ (k : ℕ). answers m es ++ filled (after m es) fs (drop (9 * k) space)) (sym count)
+    ∙ sym (filled-append m es fs space) ∙ ap (λ (gs : List Event). filled m gs space) (sym all))
+
 -- ---- ListRun
 pub list-refused : {s list space : List ℕ} {n : ℕ} → n ≡ listRefusal list space → (n ≡ 0 → ⊥) → ListRun s list space n s space
 list-refused {list = list} {space = space} number some =
@@ -101,99 +163,119 @@ fresh-run {x} {s} {list} {space} start run =
       answered = λ a. run .buffer a ∙ ap (λ (m : Machine). filled m (events list) space) start;
     }
 
--- ---- a list event by event
+-- ---- a list in pieces of 500 events
 -- The run so far, of `done` bytes of the list with `told` bytes of answers: whatever the run of the rest makes of the buffer behind them, it
--- makes the run of the whole. Before the first event nothing has changed, nor after it where it was refused.
-pub record Ran (s₀ list space₀ s space : List ℕ) (done told : ℕ) : Type 0 where
+-- makes the run of the whole.
+pub record Pieced (s₀ list space₀ s space : List ℕ) (done told : ℕ) : Type 0 where
   pub within : done ≤ length list
   pub room : told ≤ length space
   pub same : length space ≡ length space₀
   pub whole : (r ys : List ℕ) → FittingRun s (drop done list) (drop told space) r ys → FittingRun s₀ list space₀ r (take told space ++ ys)
-  pub none : done < 3 → (done ≡ 0) × (s ≡ s₀)
-  pub alone : done < 6 → (refusal (public s₀) (first list) ≡ 0 → ⊥) → s ≡ s₀
 
-pub ran-start : {s list space : List ℕ} → Ran s list space s space 0 0
-ran-start =
-    record { within = omega arith; room = omega arith; same = refl; whole = λ r ys run. run; none = λ _. (refl, refl); alone = λ _ _. refl }
+pub pieced-start : {s list space : List ℕ} → Pieced s list space s space 0 0
+pieced-start = record { within = omega arith; room = omega arith; same = refl; whole = λ r ys run. run }
 
-module _ {s₀ list space₀ s space : List ℕ} {done told : ℕ} (so-far : Ran s₀ list space₀ s space done told) where
-  -- one event more, its parts as the loop lends them
-  pub ran-more : {t ys : List ℕ} → 3 ≤ length list - done → 9 ≤ length space - told →
-      length ys ≡ length (take (length space - told) (drop told space)) →
-      EventWritten s (first (take (length list - done) (drop done list))) (take (length space - told) (drop told space)) t ys →
-      Ran s₀ list space₀ t (handed told space ys) (done + 3) (told + 9)
-  ran-more {t} {ys} some room kept lent =
-      let one : EventWritten s (first (drop done list)) (drop told space) t ys = rw (take-rest done list, take-rest told space) at lent in
-      let back = handed-back told space ys in
-      let front : length (take told space) ≡ told = simp length-take (omega (arith, so-far .room)) in
+-- a piece behind which more is to come is whole, and has room
+pub goes-on : (list done end room : ℕ) → end ≡ pieceEnd list done → (eqb list end || ltb room 4500) ≡ false →
+    (end ≡ done + 1500) × (1500 ≤ list - done) × (4500 ≤ room)
+goes-on list done end room at more =
+    split (ltb (list - done) 1500)
+    (λ short.
+    let all : eqb list end ≡ true = eq-eqb list end (sym (at ∙ simp short)) in
+    absurd (true≢false (simp all at more)))
+    (λ long.
+    let part : eqb list end ≡ false = split (eqb list end) (λ (all : eqb list end ≡ true). absurd (true≢false (simp all at more))) (λ none. none) in
+    let loose : ltb room 4500 ≡ false = simp part at more in
+    (at ∙ simp long, ltb-false (list - done) 1500 long, ltb-false room 4500 loose))
+
+module _ {s₀ list space₀ s space : List ℕ} {done told : ℕ} (so-far : Pieced s₀ list space₀ s space done told) where
+  front-long : length (take told space) ≡ told
+  front-long = simp length-take (omega (arith, so-far .room))
+
+  as-long : (ys : List ℕ) → length ys ≡ length (take (length space - told) (drop told space)) → length (handed told space ys) ≡ length space
+  as-long ys kept =
       let long : length ys ≡ length space - told = kept ∙ ap length (take-rest told space) ∙ length-drop told space in
+      ap length (handed-back told space ys) ∙ length-append (take told space) ys ∙ omega (arith, front-long, long, so-far .room)
+
+  -- one piece more, its parts as the loop lends them
+  pieced-more : {t ys : List ℕ} → 1500 ≤ length list - done → 4500 ≤ length space - told →
+      length (handed told space ys) ≡ length space →
+      FittingRun s (take (done + 1500 - done) (drop done list)) (take (length space - told) (drop told space)) t ys →
+      Pieced s₀ list space₀ t (handed told space ys) (done + 1500) (told + 4500)
+  pieced-more {t} {ys} some room long lent =
+      let short : done + 1500 - done ≡ 1500 = omega arith in
+      let piece : FittingRun s (take 1500 (drop done list)) (drop told space) t ys = rw (short, take-rest told space) at lent in
+      let back = handed-back told space ys in
       record {
         within = omega (arith, some, so-far .within);
-        room = rw back (simp length-append (omega (arith, front, long, room, so-far .room)));
-        same = ap length back ∙ length-append (take told space) ys ∙ omega (arith, front, long, so-far .room, so-far .same);
+        room = omega (arith, long, room, so-far .room);
+        same = long ∙ so-far .same;
         whole = λ r zs rest.
-            let later : drop (told + 9) (handed told space ys) ≡ drop 9 ys =
-            ap (drop (told + 9)) back
-            ∙ sym (drop-drop 9 told (take told space ++ ys)) ∙ ap (drop 9) (drop-at (take told space) ys told front) in
-            let whole-rest : FittingRun t (drop 3 (drop done list)) (drop 9 ys) r zs =
-            subst (λ (d : List ℕ). FittingRun t (drop 3 (drop done list)) d r zs) later
-            (subst (λ (d : List ℕ). FittingRun t d (drop (told + 9) (handed told space ys)) r zs) (sym (drop-drop 3 done list)) rest) in
-            let taken : take (told + 9) (handed told space ys) ≡ take told space ++ take 9 ys =
-            ap (take (told + 9)) back
-            ∙ ap (λ (n : ℕ). take (n + 9) (take told space ++ ys)) (sym front) ∙ take-append-add (take told space) ys 9 in
+            let later : drop (told + 4500) (handed told space ys) ≡ drop 4500 ys =
+            ap (drop (told + 4500)) back
+            ∙ sym (drop-drop 4500 told (take told space ++ ys)) ∙ ap (drop 4500) (drop-at (take told space) ys told front-long) in
+            let whole-rest : FittingRun t (drop 1500 (drop done list)) (drop 4500 ys) r zs =
+            subst (λ (d : List ℕ). FittingRun t (drop 1500 (drop done list)) d r zs) later
+            (subst (λ (d : List ℕ). FittingRun t d (drop (told + 4500) (handed told space ys)) r zs) (sym (drop-drop 1500 done list)) rest) in
+            let taken : take (told + 4500) (handed told space ys) ≡ take told space ++ take 4500 ys =
+            ap (take (told + 4500)) back
+            ∙ ap (λ (n : ℕ). take (n + 4500) (take told space ++ ys)) (sym front-long) ∙ take-append-add (take told space) ys 4500 in
             subst (λ (d : List ℕ). FittingRun s₀ list space₀ r d)
-            (sym (append-assoc (take told space) (take 9 ys) zs) ∙ ap (λ (d : List ℕ). d ++ zs) (sym taken))
-            (so-far .whole r (take 9 ys ++ zs)
-            (run-more (simp length-drop (omega (arith, some))) (simp length-drop (omega (arith, room))) one whole-rest));
-        none = λ few. absurd (omega arith);
-        alone = λ few refused.
-            let (at, unchanged) = so-far .none (omega arith) in
-            let same-first : refusal (public s) (first (drop done list)) ≡ refusal (public s₀) (first list) =
-            ap₂ (λ (x : List ℕ) (n : ℕ). refusal (public x) (first (drop n list))) unchanged at in
-            one .unchanged (λ a. refused (sym same-first ∙ a)) ∙ unchanged;
+            (sym (append-assoc (take told space) (take 4500 ys) zs) ∙ ap (λ (d : List ℕ). d ++ zs) (sym taken))
+            (so-far .whole r (take 4500 ys ++ zs)
+            (run-pieces 500 (simp length-drop (omega (arith, some))) (simp length-drop (omega (arith, room))) piece whole-rest));
       }
 
-  -- nothing is left that fits
-  ran-done : fitting (drop done list) (drop told space) ≡ [] → EventsRun s₀ list space₀ s space
-  ran-done nothing =
-      record {
-        run =
-            subst (λ (d : List ℕ). FittingRun s₀ list space₀ s d) (take-append-drop told space) (so-far .whole s (drop told space) (run-none nothing));
-        alone = λ short. so-far .alone (omega (arith, so-far .within));
-      }
+  module _ {end : ℕ} {t ys : List ℕ} (at : end ≡ pieceEnd (length list) done)
+      (kept : length ys ≡ length (take (length space - told) (drop told space)))
+      (lent : FittingRun s (take (end - done) (drop done list)) (take (length space - told) (drop told space)) t ys) where
+    -- the test behind the piece says that more is to come
+    pub pieced-next : (eqb (length list) end || ltb (length (handed told space ys) - told) 4500) ≡ false →
+        Pieced s₀ list space₀ t (handed told space ys) end (told + 4500)
+    pieced-next more =
+        let (stop, some, loose) = goes-on (length list) done end (length (handed told space ys) - told) at more in
+        let long = as-long ys kept in
+        subst (λ (n : ℕ). Pieced s₀ list space₀ t (handed told space ys) n (told + 4500)) (sym stop)
+        (pieced-more some (omega (arith, loose, long)) long
+        (subst (λ (n : ℕ). FittingRun s (take (n - done) (drop done list)) (take (length space - told) (drop told space)) t ys) stop lent))
 
-  pub ran-all : (leb 3 (length list - done) && leb 9 (length space - told)) ≡ false → EventsRun s₀ list space₀ s space
-  ran-all ended =
-      ran-done
-      (split (leb 3 (length list - done))
-      (λ more.
-      let tight : leb 9 (length space - told) ≡ false = simp more at ended in
-      fitting-tight (drop done list) (drop told space) (simp length-drop (leb-false 9 (length space - told) tight)))
-      (λ short. fitting-short (drop done list) (drop told space) (simp length-drop (leb-false 3 (length list - done) short))))
+    -- the last piece: all that is left of the list
+    to-the-end : end ≡ length list → fitting (take (end - done) (drop done list)) (drop told space) ≡ fitting (drop done list) (drop told space)
+    to-the-end stop =
+        ap (λ (n : ℕ). fitting (take (n - done) (drop done list)) (drop told space)) stop
+        ∙ ap (λ (l : List ℕ). fitting l (drop told space)) (take-rest done list)
 
--- both tests of the loop
-pub both-le : (a b c d : ℕ) → (leb a b && leb c d) ≡ true → (a ≤ b) × (c ≤ d)
-both-le a b c d passed =
-    let both = and-true (leb a b) (leb c d) passed in
-    (leb-true a b (both .0), leb-true c d (both .1))
+    -- or more than there is room for
+    pub pieced-end : (eqb (length list) end || ltb (length (handed told space ys) - told) 4500) ≡ true → FittingRun s₀ list space₀ t (handed told space ys)
+    pieced-end last =
+        let rest = drop done list in
+        let room = drop told space in
+        let ran : FittingRun s (take (end - done) rest) room t ys = rw (take-rest told space) at lent in
+        let all : fitting (take (end - done) rest) room ≡ fitting rest room =
+        split (eqb (length list) end) (λ whole. to-the-end (sym (eqb-true (length list) end whole)))
+        (λ part.
+        let tight : ltb (length (handed told space ys) - told) 4500 ≡ true = simp part at last in
+        split (ltb (length list - done) 1500) (λ short. to-the-end (at ∙ simp short))
+        (λ long.
+        let stop : end ≡ done + 1500 = at ∙ simp long in
+        let stops : end - done ≡ 1500 = omega (arith, stop) in
+        let few = ltb-true (length (handed told space ys) - told) 4500 tight in
+        ap (λ (n : ℕ). fitting (take n rest) room) stops
+        ∙ fitting-cut 500 rest room
+        (simp length-drop (ltb-false (length list - done) 1500 long)) (simp length-drop (omega (arith, few, as-long ys kept))))) in
+        rw (handed-back told space ys) (so-far .whole t ys (run-same all ran))
 
--- ---- EventAnswered: a list of one event, with room for its answer alone
-pub one-answered : {s s′ answer₀ reply : List ℕ} {kind low high : ℕ} → length answer₀ ≡ 9 →
-    EventsRun s (kind ∷ low ∷ high ∷ []) answer₀ s′ reply →
-    EventAnswered s (event kind low high) s′ reply
-unfolding after answers filled events
-one-answered {s} {s′} {answer₀} {reply} {kind} {low} {high} nine ran =
-    let e = event kind low high in
-    let all : fitting (kind ∷ low ∷ high ∷ []) answer₀ ≡ e ∷ [] = rw nine refl in
-    let change : Changed (λ m. step m e) s s′ = by-rule (run-change (ran .run)) (ap (after (view s)) all) in
+-- ---- EventAnswered: an event with room for its answer alone
+pub answered : {s s′ answer₀ reply : List ℕ} {e : Event} → length answer₀ ≡ 9 → EventWritten s e answer₀ s′ reply → EventAnswered s e s′ reply
+answered {s} {answer₀ = answer₀} {e = e} nine one =
     record {
-      stepped = change .machine;
-      bytes = λ b. change .bytes b ∙ ap stateOf (change .machine);
+      stepped = one .change .machine;
+      bytes = λ b. one .change .bytes b ∙ ap stateOf (one .change .machine);
       answered =
-          ran .run .buffer ∙ ap (λ (es : List Event). filled (view s) es answer₀) all
-          ∙ ap₂ (λ (a b : List ℕ). a ++ b) (append-nil (answer (view s) e)) (drop-of-length-le answer₀ {i = 9} (omega arith)) ∙ append-nil (answer (view s) e);
-      unchanged = ran .alone (omega arith);
-      kept = λ k. subst Kept (sym (change .machine)) (keeps (view s) e k);
+          one .buffer ∙ ap (λ (d : List ℕ). answer (view s) e ++ d) (drop-of-length-le answer₀ {i = 9} (omega (arith, nine)))
+          ∙ append-nil (answer (view s) e);
+      unchanged = one .unchanged;
+      kept = one .kept;
     }
 
 -- the lines of a state: the answer to an event of no kind, without its number

@@ -1,11 +1,14 @@
 -- What the program finds of the RAM and the key table in the state. Assumes nothing.
 use mathlib.Core.Path.{_≡_, ap, sym, _∙_}
 use mathlib.Core.List.{List}
+use mathlib.Core.Bool.{Bool, false}
 use Prim.Native.Nat.{ℕ, _+_, _≤_, _<_}
 use native.Mathlib.Omega.{arith}
 use lib.ListN.{length, getD, take, drop, length-take, List·getD-eq-default}
 use lib.Seq.{getD-take, getD-drop}
+use Rattle.translation.specs.Bits.{nibble}
 use Rattle.machine.specs.Lines.{cellOf}
+use Rattle.machine.proofs.Laws.Lines.{nibble-most}
 use Rattle.state.specs.View.{stateLength, public}
 use Rattle.state.proofs.Laws.View.{ram-of}
 
@@ -21,3 +24,8 @@ cellOf-none s k long h = sym (ap (λ (xs : List ℕ). getD xs k 0) (ram-of s lon
 -- an entry stands behind the first 65 bytes
 pub entry-at : (s : List ℕ) (b : ℕ) → getD s (65 + b) 0 ≡ getD (public s .settings .table) b 0
 entry-at s b = sym (getD-drop 65 s b 0)
+
+-- ---- the status
+-- its low bits without OBF and IBF
+pub low-most : {n : ℕ} (c d : Bool) → n ≡ nibble false false c d → n ≤ 12
+low-most c d made = omega (arith, made, nibble-most c d)

@@ -5,9 +5,9 @@ use mathlib.Core.Bool.{Bool, true, false, cond, not, _&&_, _||_, false≢true}
 use Prim.Native.Nat.{ℕ, _-_, _/_, _%_, _≤_, _<_}
 use native.Mathlib.Omega.{arith}
 use lib.Dec.{eqb, leb}
-use borrow.Author.Tests.{leb-true, le-leb, lt-leb, eq-eqb, ne-eqb}
+use borrow.Author.Tests.{leb-true, le-leb, lt-leb, eq-eqb, ne-eqb, not-true}
 use Rattle.translation.specs.Bits.{has, within, clearBit, nibble}
-use Rattle.translation.proofs.Tests.{split}
+use Rattle.translation.proofs.Tests.{split, and-true}
 use Rattle.machine.specs.Settings.{Settings}
 use Rattle.machine.specs.State.{Public, Machine, withHost, afterCommand, lift}
 use Rattle.machine.specs.Lines.{atMode, secondSet, put, putCell, keyboardOff, mouseOff}
@@ -77,6 +77,20 @@ module _ (x : Settings) (c : ℕ) {hidden : Bool} (isHidden : hidden ≡ (x .atM
 
     pub understood-same : other ≡ false → c ≡ understood x c
     understood-same h = ap (λ (t : Bool). cond t 0 c) (sym h ∙ same)
+
+-- in PS/2 mode with the first set only the second set's own are left out
+module _ (x : Settings) (c : ℕ) {ordinary only : Bool} (isOrdinary : ordinary ≡ (not (x .atMode) && not (x .secondSet))) (stands : ordinary ≡ true)
+    (isOnly : only ≡ secondOnly c) where
+  only-leftOut : only ≡ leftOut x c
+  only-leftOut =
+      let (ps2, first) = and-true (not (x .atMode)) (not (x .secondSet)) (sym isOrdinary ∙ stands) in
+      isOnly ∙ sym (simp (not-true (x .atMode) ps2, not-true (x .secondSet) first))
+
+  pub understood-second : only ≡ true → 0 ≡ understood x c
+  understood-second h = ap (λ (t : Bool). cond t 0 c) (sym h ∙ only-leftOut)
+
+  pub understood-first : only ≡ false → c ≡ understood x c
+  understood-first h = ap (λ (t : Bool). cond t 0 c) (sym h ∙ only-leftOut)
 
 -- ---- polled
 module _ (n : ℕ) (p : Public) {second : Bool} (isSecond : second ≡ secondSet p) where

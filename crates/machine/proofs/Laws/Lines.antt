@@ -10,7 +10,7 @@ use Rattle.translation.specs.Bits.{bit, has, weight, nibble}
 use Rattle.translation.proofs.Tests.{split, equal-below}
 use Rattle.machine.specs.State.{Public, Machine, lift}
 use Rattle.machine.specs.Lines.{atMode, secondSet, cellOf, override, inputPort, keySwitch, inhibited, mouseInhibited}
-use Rattle.machine.specs.Lines.{statusBit5, overlayShown, highNibble}
+use Rattle.machine.specs.Lines.{statusBit5, overlayShown, highWith, highNibble, status, system, inputFull}
 use Rattle.machine.specs.Lines.{mouseInterrupt, keyboardInterrupt}
 use Rattle.machine.specs.Lines.{mouseRequest, keyboardRequest, mouseOff, keyboardOff, ps2Port, atPort, outputPort, put, putCell}
 use Rattle.machine.proofs.Laws.Bits.{weight-eqb}
@@ -135,17 +135,45 @@ module _ (p : Public) {at′ : Bool} (isAt : at′ ≡ atMode p) where
   pub statusBit5-ps2 : {full mouse : Bool} → at′ ≡ false → full ≡ p .output .full → mouse ≡ p .output .mouse → (full && mouse) ≡ statusBit5 p
   statusBit5-ps2 h isFull isMouse = simp (sym isAt ∙ h, isFull, isMouse)
 
-pub highNibble-overlay : (p : Public) {r : ℕ} → p .host .overlay ≡ true → r ≡ 16 * overlayShown p → r ≡ 16 * highNibble p
-unfolding highNibble
-highNibble-overlay p some made = made ∙ simp some
+pub highWith-overlay : (p : Public) (five : Bool) {r : ℕ} → p .host .overlay ≡ true → r ≡ 16 * overlayShown p → r ≡ 16 * highWith five p
+highWith-overlay p five some made = made ∙ simp some
 
-pub highNibble-lines : (p : Public) {r : ℕ} {switch shown : Bool} → p .host .overlay ≡ false →
-    r ≡ 16 * nibble switch shown (p .errors .terr) (p .errors .perr) →
+pub highWith-lines : (p : Public) (five : Bool) {r : ℕ} {switch : Bool} → p .host .overlay ≡ false →
+    r ≡ 16 * nibble switch five (p .errors .terr) (p .errors .perr) →
     switch ≡ keySwitch p →
-    shown ≡ statusBit5 p →
-    r ≡ 16 * highNibble p
-unfolding highNibble
-highNibble-lines p none made isSwitch isBit = made ∙ simp (none, isSwitch, isBit)
+    r ≡ 16 * highWith five p
+highWith-lines p five none made isSwitch = made ∙ simp (none, isSwitch)
+
+-- ---- status
+-- from its low bits without IBF and its high ones
+nibble-second : (a b c d : Bool) → nibble a false c d + weight 2 b ≡ nibble a b c d
+unfolding nibble
+nibble-second a b c d = omega arith
+
+nibble-first : (b c d : Bool) → nibble false b c d + 1 ≡ nibble true b c d
+unfolding nibble
+nibble-first b c d = omega arith
+
+pub nibble-most : (c d : Bool) → nibble false false c d ≤ 12
+unfolding nibble
+nibble-most false false = omega arith
+nibble-most false true = omega arith
+nibble-most true false = omega arith
+nibble-most true true = omega arith
+
+status-sum : (p : Public) → status p ≡ nibble (p .output .full) (inputFull p) (system p) (p .host .command) + 16 * highWith (statusBit5 p) p
+unfolding status highNibble
+status-sum p = refl
+
+status-parts : (p : Public) {low high : ℕ} {full five : Bool} → p .output .full ≡ full → statusBit5 p ≡ five →
+    low ≡ nibble full false (system p) (p .host .command) →
+    high ≡ 16 * highWith five p →
+    low + high + weight 2 (inputFull p) ≡ status p
+status-parts p {low} {high} {full} {five} isFull isFive isLow isHigh =
+    let rest = nibble-second full (inputFull p) (system p) (p .host .command) in
+    let sum : low + high + weight 2 (inputFull p) ≡ nibble full (inputFull p) (system p) (p .host .command) + high = omega (arith, isLow, rest) in
+    sum ∙ ap (λ (n : ℕ). nibble full (inputFull p) (system p) (p .host .command) + n) isHigh
+    ∙ (λ i. nibble (sym isFull i) (inputFull p) (system p) (p .host .command) + 16 * highWith (sym isFive i) p) ∙ sym (status-sum p)
 
 -- ---- the interrupt requests
 module _ (p : Public) {r : ℕ} {full mouse : Bool} (isFull : full ≡ p .output .full) (isMouse : mouse ≡ p .output .mouse) where
@@ -156,6 +184,10 @@ module _ (p : Public) {r : ℕ} {full mouse : Bool} (isFull : full ≡ p .output
   pub keyboard-requested : full ≡ true → mouse ≡ false → r ≡ weight 16 (keyboardInterrupt p) →
       r ≡ 16 * nibble (keyboardRequest p) (mouseRequest p) false false
   keyboard-requested stands from made = made ∙ keyboard-weight (keyboardInterrupt p) ∙ simp (sym isFull ∙ stands, sym isMouse ∙ from)
+
+no-request : (p : Public) → p .output .full ≡ false → 0 ≡ 16 * nibble (keyboardRequest p) (mouseRequest p) false false
+unfolding nibble
+no-request p empty = simp empty
 
 -- ---- ps2Port, atPort, outputPort
 pub ps2Port-sum : (p : Public) {low requests off : ℕ} {mouse keyboard : Bool} → mouse ≡ mouseOff p → keyboard ≡ keyboardOff p →
@@ -181,6 +213,39 @@ module _ (p : Public) {r : ℕ} {at′ : Bool} (isAt : at′ ≡ atMode p) where
   pub outputPort-ps2 : at′ ≡ false → r ≡ ps2Port p → r ≡ outputPort p
   unfolding outputPort
   outputPort-ps2 h made = made ∙ simp (sym isAt ∙ h)
+
+-- ---- status and outputPort in PS/2 mode, by what the output buffer holds
+module _ (p : Public) {low lines off : ℕ} {mouse keyboard : Bool} (isMouse : mouse ≡ mouseOff p) (isKeyboard : keyboard ≡ keyboardOff p)
+    (isLow : low ≡ nibble false false (system p) (p .host .command))
+    (isLines : lines ≡ nibble (p .ports .p20) (p .ports .p21) false mouse)
+    (isOff : off ≡ weight 64 keyboard) where
+  port-sum : {r : ℕ} → r ≡ 16 * nibble (keyboardRequest p) (mouseRequest p) false false → atMode p ≡ false → lines + off + r ≡ outputPort p
+  port-sum {r} isRequests ps2 =
+      let turned : lines + off + r ≡ lines + r + off = omega arith in
+      outputPort-ps2 p refl ps2 (turned ∙ ps2Port-sum p isMouse isKeyboard isLines isRequests isOff)
+
+  pub shown-empty : {full : Bool} {high : ℕ} → full ≡ p .output .full → full ≡ false → high ≡ 16 * highWith false p → atMode p ≡ false →
+      (low + high + weight 2 (inputFull p) ≡ status p) × (lines + off ≡ outputPort p)
+  shown-empty {full} isFull none isHigh ps2 =
+      let empty : p .output .full ≡ false = sym isFull ∙ none in
+      let nothing : lines + off ≡ lines + off + 0 = omega arith in
+      (status-parts p empty (simp (ps2, empty)) isLow isHigh, nothing ∙ port-sum (no-request p empty) ps2)
+
+  byte-low : low + 1 ≡ nibble true false (system p) (p .host .command)
+  byte-low = ap (λ (n : ℕ). n + 1) isLow ∙ nibble-first false (system p) (p .host .command)
+
+  module _ {full from : Bool} {high r : ℕ} (isFull : full ≡ p .output .full) (stands : full ≡ true) (isFrom : from ≡ p .output .mouse) where
+    pub shown-mouse : from ≡ true → high ≡ 16 * highWith true p → r ≡ weight 32 (mouseInterrupt p) → atMode p ≡ false →
+        (low + 1 + high + weight 2 (inputFull p) ≡ status p) × (lines + off + r ≡ outputPort p)
+    shown-mouse mouses isHigh made ps2 =
+        (status-parts p (sym isFull ∙ stands) (simp (ps2, sym isFull ∙ stands, sym isFrom ∙ mouses)) byte-low isHigh,
+        port-sum (mouse-requested p isFull isFrom stands mouses made) ps2)
+
+    pub shown-keyboard : from ≡ false → high ≡ 16 * highWith false p → r ≡ weight 16 (keyboardInterrupt p) → atMode p ≡ false →
+        (low + 1 + high + weight 2 (inputFull p) ≡ status p) × (lines + off + r ≡ outputPort p)
+    shown-keyboard keyboards isHigh made ps2 =
+        (status-parts p (sym isFull ∙ stands) (simp (ps2, sym isFull ∙ stands, sym isFrom ∙ keyboards)) byte-low isHigh,
+        port-sum (keyboard-requested p isFull isFrom stands keyboards made) ps2)
 
 -- ---- putCell
 module _ (m : Machine) (k : ℕ) {b : ℕ} (read : b ≡ cellOf (m .plain) k) where

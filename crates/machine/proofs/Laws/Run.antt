@@ -1,13 +1,13 @@
 -- Laws of the definitions in specs/Run: bytes as events, lists laid end to end, the answers' lengths, the answer buffer, and what a call's
 -- refusal goes by. Assumes nothing.
-use Prim.Native.Nat.{ℕ, suc, _+_, _*_, _-_, _/_, _%_, _≤_, _<_}
-use mathlib.Core.Path.{_≡_, refl, ap, sym, _∙_}
+use Prim.Native.Nat.{ℕ, zero, suc, _+_, _*_, _-_, _/_, _%_, _≤_, _<_}
+use mathlib.Core.Path.{_≡_, refl, ap, ap₂, sym, _∙_}
 use mathlib.Core.Bool.{not, _||_}
 use mathlib.Core.List.{List, [], _∷_, _++_, append-assoc, append-nil}
 use native.Mathlib.Omega.{arith}
 use lib.Dec.{eqb, ltb}
-use lib.ListN.{length, take, drop, length-append, length-drop}
-use lib.Seq.{take-nil, take-at, take-all, drop-drop}
+use lib.ListN.{length, take, drop, length-append, length-take, length-drop}
+use lib.Seq.{take-nil, take-at, take-all, drop-drop, take-append-add, take-append-le}
 use borrow.Author.Tests.{ltb-false}
 use Rattle.machine.specs.State.{Machine}
 use Rattle.machine.specs.Events.{Event, event, step, answer, reply, lines, refusal}
@@ -39,6 +39,17 @@ length-events (k ∷ l ∷ []) = refl
 length-events (k ∷ l ∷ h ∷ rest) =
     let one : suc (suc (suc (length rest))) / 3 ≡ suc (length rest / 3) = omega arith in
     ap suc (length-events rest) ∙ sym one
+
+-- the first n events of a list, and the rest
+pub events-split : (n : ℕ) (list : List ℕ) → 3 * n ≤ length list → events list ≡ events (take (3 * n) list) ++ events (drop (3 * n) list)
+unfolding events
+events-split zero list h = refl
+events-split (suc n) [] h = absurd (omega arith)
+events-split (suc n) (k ∷ []) h = absurd (omega arith)
+events-split (suc n) (k ∷ l ∷ []) h = absurd (omega arith)
+events-split (suc n) (k ∷ l ∷ h ∷ rest) room =
+    let more : 3 * suc n ≡ suc (suc (suc (3 * n))) = omega arith in
+    rw more (ap (λ (es : List Event). event k l h ∷ es) (events-split n rest (omega arith)))
 
 -- ---- after
 pub after-last : (m : Machine) (es : List Event) (e : Event) → after m (es ++ (e ∷ [])) ≡ step (after m es) e
@@ -93,6 +104,29 @@ fitting-more list space h room =
     let one : length space / 9 ≡ suc ((length space - 9) / 9) = omega arith in
     rw (events-more list h, one, length-drop 9 space)
 
+-- a list's first n events
+module _ (n : ℕ) (list space : List ℕ) (some : 3 * n ≤ length list) where
+  pub length-piece : length (events (take (3 * n) list)) ≡ n
+  length-piece = length-events (take (3 * n) list) ∙ simp length-take (omega arith)
+
+  -- they have room, and so has what fits of the rest
+  pub fitting-piece : 9 * n ≤ length space → fitting (take (3 * n) list) space ≡ events (take (3 * n) list)
+  fitting-piece room = take-all (length space / 9) (events (take (3 * n) list)) (omega (arith, length-piece))
+
+  pub fitting-split : 9 * n ≤ length space →
+      fitting list space ≡ events (take (3 * n) list) ++ fitting (drop (3 * n) list) (drop (9 * n) space)
+  fitting-split room =
+      let es = events (take (3 * n) list) in
+      let count : length space / 9 ≡ length es + length (drop (9 * n) space) / 9 = simp length-drop (omega (arith, length-piece)) in
+      ap₂ (λ (k : ℕ) (fs : List Event). take k fs) count (events-split n list some)
+      ∙ take-append-add es (events (drop (3 * n) list)) (length (drop (9 * n) space) / 9)
+
+  -- they do not all have room: what stands behind them changes nothing
+  pub fitting-cut : length space < 9 * n → fitting (take (3 * n) list) space ≡ fitting list space
+  fitting-cut tight =
+      let es = events (take (3 * n) list) in
+      sym (ap (take (length space / 9)) (events-split n list some) ∙ take-append-le (length space / 9) es (events (drop (3 * n) list)) (omega (arith, length-piece)))
+
 -- where the call is not refused
 pub fitting-all : (list space : List ℕ) → listRefusal list space ≡ 0 → fitting list space ≡ events list
 unfolding lengthRefusal
@@ -112,6 +146,16 @@ filled-more m e es space =
     let far : 9 + 9 * length es ≡ 9 * suc (length es) = omega arith in
     sym (append-assoc (answer m e) (answers (step m e) es) (drop (9 * length es) (drop 9 space)))
     ∙ ap (λ (xs : List ℕ). (answer m e ++ answers (step m e) es) ++ xs) (drop-drop (9 * length es) 9 space ∙ ap (λ (n : ℕ). drop n space) far)
+
+-- two lists laid end to end: the second's answers stand behind the first's
+pub filled-append : (m : Machine) (es fs : List Event) (space : List ℕ) →
+    filled m (es ++ fs) space ≡ answers m es ++ filled (after m es) fs (drop (9 * length es) space)
+unfolding filled
+filled-append m es fs space =
+    let far : 9 * length (es ++ fs) ≡ 9 * length es + 9 * length fs = simp length-append (omega arith) in
+    ap₂ (λ (a b : List ℕ). a ++ b) (answers-append m es fs) (ap (λ (n : ℕ). drop n space) far)
+    ∙ append-assoc (answers m es) (answers (after m es) fs) (drop (9 * length es + 9 * length fs) space)
+    ∙ ap (λ (d : List ℕ). answers m es ++ (answers (after m es) fs ++ d)) (sym (drop-drop (9 * length fs) (9 * length es) space))
 
 -- the answers stand at the buffer's front
 pub take-filled : (m : Machine) (es : List Event) (space : List ℕ) → take (9 * length es) (filled m es space) ≡ answers m es

@@ -3,6 +3,8 @@
 use borrow.Author.Tests.{eq-eqb, ne-eqb, lt-ltb, le-ltb}
 use Rattle.machine.specs.Run.{lengthRefusal}
 use borrow.Author.Needs.{needs}
+use native.Mathlib.Omega.{arith}
+use Prim.Native.Nat.{_*_, _/_}
 use Rattle.controller.proofs.run.list_refusal.Statement.{statement}
 use Rattle.controller.proofs.run.list_refusal.Tie as tie
 
@@ -19,11 +21,17 @@ mul-if3 c = search needs
 
 returns-3 : tie.Need-returns-3
 unfolding lengthRefusal
-returns-3 c = simp (eq-eqb _ _ (c .before .before .if1 .left), le-ltb _ _ (c .before .if2 .left), lt-ltb _ _ (c .if3 .taken))
+returns-3 c =
+    let args = c .before .before .before .args in
+    let thirds = c .before .before .if1 .left in
+    simp (eq-eqb _ _ thirds, le-ltb _ _ (c .before .if2 .left), lt-ltb (args .space) (args .list / 3 * 9) (omega (arith, thirds, c .if3 .taken)))
 
 returns-4 : tie.Need-returns-4
 unfolding lengthRefusal
-returns-4 c = simp (eq-eqb _ _ (c .before .before .if1 .left), le-ltb _ _ (c .before .if2 .left), le-ltb _ _ (c .if3 .left))
+returns-4 c =
+    let args = c .before .before .before .args in
+    let thirds = c .before .before .if1 .left in
+    simp (eq-eqb _ _ thirds, le-ltb _ _ (c .before .if2 .left), le-ltb (args .space) (args .list / 3 * 9) (omega (arith, thirds, c .if3 .left)))
 
 pub list-refusal-spec : {M : Type 1} → statement M
 list-refusal-spec = tie.close (tie.spec returns returns-2 mul-if3 returns-3 returns-4)

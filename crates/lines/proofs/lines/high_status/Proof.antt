@@ -2,7 +2,7 @@
 -- Assumes nothing.
 use borrow.Author.Needs.{needs}
 use borrow.Author.Tests.{eq-eqb, ne-eqb}
-use Rattle.machine.proofs.Laws.Lines.{highNibble-overlay, highNibble-lines}
+use Rattle.machine.proofs.Laws.Lines.{highWith-overlay, highWith-lines}
 use Rattle.lines.proofs.lines.high_status.Statement.{statement}
 use Rattle.lines.proofs.lines.high_status.Tie as tie
 
@@ -15,9 +15,6 @@ overlay-shown-requires c κs = search needs
 key-switch-requires : tie.Need-key-switch-requires
 key-switch-requires c κs = search needs
 
-status-bit-5-requires : tie.Need-status-bit-5-requires
-status-bit-5-requires c κs = search needs
-
 element-copy-out-upper : tie.Need-element-copy-out-upper
 element-copy-out-upper c = search needs
 
@@ -28,10 +25,10 @@ upper-requires : tie.Need-upper-requires
 upper-requires c κs = search needs
 
 returns : tie.Need-returns
-returns c = (search (highNibble-overlay, eq-eqb), c .overlay-shown .ensures .1)
+returns c = (search (highWith-overlay, eq-eqb), c .overlay-shown .ensures .1)
 
 returns-2 : tie.Need-returns-2
-returns-2 c = (search (highNibble-lines, ne-eqb), c .upper .ensures .1)
+returns-2 c = (search (highWith-lines, ne-eqb), c .upper .ensures .1)
 
 pub high-status-spec : {M : Type 1} → statement M
 high-status-spec =
@@ -40,7 +37,6 @@ high-status-spec =
     element-copy-out-if1
     overlay-shown-requires
     key-switch-requires
-    status-bit-5-requires
     element-copy-out-upper
     element-copy-out-upper-2
     upper-requires
