@@ -343,7 +343,7 @@ fn all_once(seen: [u8; 256]) -> bool
     true
 }
 
-// The entries 01h-7Fh hold each of 01h-7Fh once: each is looked at once, and what was seen is marked.
+// The entries 01h-7Fh hold each of 01h-7Fh once: each is looked at once, and every value that was seen is counted.
 fn permutes(table: &[u8]) -> bool
     requires { ⌜ 128 ≤ length (now table) ⌝ }
     ensures { λ r. ⌜ r ≡ key.permutes (now (table .entry)) ⌝ }
