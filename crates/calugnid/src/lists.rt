@@ -2,8 +2,6 @@
 use controller::run::run_fresh;
 use image::find::body_start;
 use image::run::run_image;
-use state::settings::settings_of;
-use translation::key_table::built_in;
 ghost use mathlib.Core.Path.{_≡_};
 ghost use Rattle.translation.specs.KeyTable.{builtIn};
 ghost use Rattle.machine.specs.Settings.{settingsOf};
@@ -16,7 +14,7 @@ ghost use Rattle.image.specs.Run.{ImageRun};
 pub extern "C" fn calugnid_run(options: u8, version: u8, list: &[u8], answers: &mut [u8]) -> u8
     ensures { λ r. ⌜ FreshRun (settingsOf options version builtIn) (now (list .entry)) (now (answers .entry)) (now (answers .exit)) r ⌝ }
 {
-    run_fresh(settings_of(options, version, built_in()), list, answers)
+    run_fresh(options, version, list, answers)
 }
 
 // An image loaded, a list run and the state saved again. Every check comes before the first byte is written.

@@ -7,10 +7,8 @@ use controller::run::run_fitting;
 use controller::run::show_lines;
 use image::load::load;
 use image::save::save;
-use state::settings::settings_of;
 use state::state::State;
 use state::state::start;
-use translation::key_table::built_in;
 ghost use mathlib.Core.Path.{_≡_};
 ghost use Rattle.translation.specs.KeyTable.{builtIn};
 ghost use Rattle.machine.specs.Settings.{settingsOf};
@@ -26,7 +24,7 @@ ghost use Rattle.calugnid.specs.Values.{eventOf};
 pub extern "C" fn calugnid_start(state: &mut State, options: u8, version: u8)
     ensures { λ _. ⌜ now (state .exit) ≡ stateOf (fresh (settingsOf options version builtIn)) ⌝ }
 {
-    *state = start(settings_of(options, version, built_in()));
+    *state = start(options, version);
 }
 
 // One event, and its nine answer bytes.

@@ -2,8 +2,11 @@
 -- every byte of the state, where they are those of their machine; and that the body rules are kept.
 use mathlib.Core.Path.{_≡_}
 use Prim.Native.Nat.{ℕ}
+use mathlib.Core.Bool.{cond}
 use mathlib.Core.List.{List, [], _∷_}
-use Rattle.machine.specs.Settings.{Settings}
+use lib.Dec.{eqb}
+use Rattle.translation.specs.KeyTable.{tableRefusal}
+use Rattle.machine.specs.Settings.{Settings, settingsOf}
 use Rattle.machine.specs.State.{fresh}
 use Rattle.machine.specs.Events.{Event, step, answer, lines, refusal}
 use Rattle.machine.specs.Run.{events, after, filled, fitting, listRefusal}
@@ -39,3 +42,13 @@ pub record FreshRun (x : Settings) (list space space′ : List ℕ) (number : �
   pub refusal : number ≡ listRefusal list space
   pub refused : (listRefusal list space ≡ 0 → ⊥) → space′ ≡ space
   pub answered : listRefusal list space ≡ 0 → space′ ≡ filled (fresh x) (events list) space
+
+-- Document 02, W7, a run from a start with a caller's key table: checks 13 to 15, then 7 and 8.
+abbrev pub tableRunRefusal : List ℕ → List ℕ → List ℕ → ℕ
+tableRunRefusal table list space = cond (eqb (tableRefusal table) 0) (listRefusal list space) (tableRefusal table)
+
+-- Refused by its number with the buffer as it was, or all its answers written.
+pub record TableRun (options version : ℕ) (table list space space′ : List ℕ) (number : ℕ) : Type 0 where
+  pub refusal : number ≡ tableRunRefusal table list space
+  pub refused : (tableRunRefusal table list space ≡ 0 → ⊥) → space′ ≡ space
+  pub answered : tableRunRefusal table list space ≡ 0 → space′ ≡ filled (fresh (settingsOf options version table)) (events list) space

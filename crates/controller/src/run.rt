@@ -1,16 +1,18 @@
 // A list of events: each writes its nine answer bytes, and the rest of the answer buffer is lent to the next.
 use crate::events::respond;
-use state::settings::Settings;
 use state::state::State;
 use state::state::start;
+use state::state::start_with_table;
 ghost use mathlib.Core.Path.{_≡_};
 ghost use Prim.Native.Nat.{_≤_, _<_};
 ghost use lib.ListN.{length};
+ghost use Rattle.translation.specs.KeyTable.{builtIn};
+ghost use Rattle.machine.specs.Settings.{settingsOf};
 ghost use Rattle.machine.specs.Events as events;
 ghost use Rattle.machine.specs.Events.{event};
 ghost use Rattle.machine.specs.Run.{first, lengthRefusal};
-ghost use Rattle.state.specs.View.{public, named};
-ghost use Rattle.controller.specs.Promises.{EventAnswered, FittingRun, ListRun, FreshRun};
+ghost use Rattle.state.specs.View.{public};
+ghost use Rattle.controller.specs.Promises.{EventAnswered, FittingRun, ListRun, FreshRun, TableRun};
 ghost use Rattle.controller.specs.Steps.{EventWritten, pieceEnd};
 
 // The longest list that a call takes, in bytes.
@@ -159,10 +161,22 @@ pub fn run(s: &mut State, list: &[u8], answers: &mut [u8]) -> u8
     0
 }
 
-// Runs a list from a start with these settings; the state is not kept.
-pub fn run_fresh(settings: Settings, list: &[u8], answers: &mut [u8]) -> u8
-    ensures { λ r. ⌜ FreshRun (named settings) (now (list .entry)) (now (answers .entry)) (now (answers .exit)) r ⌝ }
+// Runs a list from a start with the settings that the options name, a version byte and the built-in key table; the state is not kept.
+pub fn run_fresh(options: u8, version: u8, list: &[u8], answers: &mut [u8]) -> u8
+    ensures { λ r. ⌜ FreshRun (settingsOf options version builtIn) (now (list .entry)) (now (answers .entry)) (now (answers .exit)) r ⌝ }
 {
-    let mut s = start(settings);
+    let mut s = start(options, version);
+    run(&mut s, list, answers)
+}
+
+// The same with a key table of the caller's, whose checks come before the list's.
+pub fn run_with_table(options: u8, version: u8, table: &[u8], list: &[u8], answers: &mut [u8]) -> u8
+    ensures { λ r. ⌜ TableRun options version (now (table .entry)) (now (list .entry)) (now (answers .entry)) (now (answers .exit)) r ⌝ }
+{
+    let mut s = [0u8; 321];
+    let number = start_with_table(&mut s, options, version, table);
+    if number != 0 {
+        return number;
+    }
     run(&mut s, list, answers)
 }

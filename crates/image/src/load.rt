@@ -1,7 +1,6 @@
 // A state loaded from an image.
 use crate::find::find;
 use image_bytes::rules::body_kept;
-use state::settings::ordinary;
 use state::state::State;
 use state::state::start;
 ghost use Rattle.image.specs.Promises.{Loaded};
@@ -25,7 +24,7 @@ pub fn load(s: &mut State, bytes: &[u8]) -> u8
     if !body_kept(&body) {
         return BROKEN_BODY;
     }
-    *s = start(ordinary());
+    *s = start(0, 0);
     bytes::copy(&body, s);
     0
 }

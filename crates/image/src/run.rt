@@ -5,7 +5,6 @@ use crate::save::save;
 use controller::run::list_refusal;
 use controller::run::run;
 use image_bytes::layout::IMAGE;
-use state::settings::ordinary;
 use state::state::start;
 ghost use Rattle.image.specs.Run.{ImageRun};
 
@@ -21,7 +20,7 @@ pub fn run_image(image: &[u8], list: &[u8], answers: &mut [u8], saved: &mut [u8]
     if saved.len() < IMAGE {
         return SHORT_SPACE;
     }
-    let mut s = start(ordinary());
+    let mut s = start(0, 0);
     let refusal = load(&mut s, image);
     if refusal != 0 {
         return refusal;

@@ -2,7 +2,6 @@
 use libc::STDIN_FILENO;
 use libc::STDOUT_FILENO;
 use printing::page::print_list;
-use state::settings::ordinary;
 
 // One byte more than the longest list, so that a longer input is noticed.
 const READ_MOST: usize = 21001;
@@ -16,6 +15,7 @@ fn main() {
     let mut answers = [0u8; ANSWERS];
     let mut page = [0u8; PAGE];
     let got = io::read_full(STDIN_FILENO, &mut list);
-    let length = print_list(ordinary(), &list[..got], &mut answers, &mut page);
+    let printed = print_list(0, 0, &list[..got], &mut answers, &mut page);
+    let length = printed.written;
     io::write_all(STDOUT_FILENO, &page[..length]);
 }

@@ -9,6 +9,7 @@ use Rattle.machine.specs.Settings.{Settings}
 use Rattle.machine.specs.State.{fresh}
 use Rattle.machine.specs.Run.{events, answers, lengthRefusal}
 use Rattle.printing.specs.Lines.{lines}
+use Rattle.printing.specs.declared.page.Printout.{Printout}
 
 -- rf rd old st p2 pu to fl fh, and LF
 unfoldable pub header : List ℕ
@@ -47,9 +48,14 @@ pub record Written (bytes out : List ℕ) (r : ℕ) (out′ : List ℕ) : Type 0
 unfoldable pub room : Settings → List ℕ → List ℕ → List ℕ → Bool
 room x list space out = leb (length (answered x list)) (length space) && leb (length (page x list)) (length out)
 
+-- Check 7 of the list, whose page is its refusal, and then check 8 of the two buffers.
+abbrev pub printRefusal : Settings → List ℕ → List ℕ → List ℕ → ℕ
+printRefusal x list space out = cond (refused list) 7 (cond (room x list space out) 0 8)
+
 -- The page of a list in one buffer, its answers in the other, and the page's length; or, where there is no room, the buffers as they
 -- were, and 0, which is the length of no page.
-pub record Printed (x : Settings) (list space out : List ℕ) (r : ℕ) (space′ out′ : List ℕ) : Type 0 where
-  pub count : r ≡ cond (room x list space out) (length (page x list)) 0
+pub record Printed (x : Settings) (list space out : List ℕ) (r : Printout) (space′ out′ : List ℕ) : Type 0 where
+  pub refusal : r .refusal ≡ printRefusal x list space out
+  pub count : r .written ≡ cond (room x list space out) (length (page x list)) 0
   pub answers : space′ ≡ cond (room x list space out) (over (answered x list) space) space
   pub text : out′ ≡ cond (room x list space out) (over (page x list) out) out

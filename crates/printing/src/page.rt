@@ -2,14 +2,19 @@
 use crate::lines::write_lines;
 use controller::run::list_refusal;
 use controller::run::run_fresh;
-use state::settings::Settings;
 ghost use mathlib.Core.Path.{_≡_};
 ghost use mathlib.Core.List.{_++_};
 ghost use Prim.Native.Nat.{_+_, _*_, _≤_};
 ghost use lib.ListN.{length};
-ghost use Rattle.state.specs.View.{named};
+ghost use Rattle.translation.specs.KeyTable.{builtIn};
+ghost use Rattle.machine.specs.Settings.{settingsOf};
 ghost use Rattle.printing.specs.Lines.{lines};
 ghost use Rattle.printing.specs.Page.{header, refusedText, refusedLength, over, Written, Printed};
+
+// The checks that refuse to print a list.
+const BAD_LIST: u8 = 7;
+
+const NO_ROOM: u8 = 8;
 
 // Check 7 of a list of so many bytes.
 fn is_refused(length: usize) -> bool
@@ -38,21 +43,47 @@ fn print_answers(count: usize, answers: &[u8], out: &mut [u8]) -> usize
     28 + 27 * count
 }
 
-// Runs a list from a start with these settings, its answers in one buffer and its text in the other, and returns how long the text is.
-// Where a buffer is too small for its bytes, neither is written and the result is 0.
-pub fn print_list(settings: Settings, list: &[u8], answers: &mut [u8], out: &mut [u8]) -> usize
-    ensures { λ r. ⌜ Printed (named settings) (now (list .entry)) (now (answers .entry)) (now (out .entry)) r (now (answers .exit)) (now (out .exit)) ⌝ }
+// What printing came to: 0, or the check that refuses the list (7) or a buffer (8); and how many bytes of text were written.
+pub struct Printout {
+    pub refusal: u8,
+    pub written: usize,
+}
+
+// Runs a list from a start with the settings that the options name, its answers in one buffer and its text in the other. Where a buffer is too small
+// for its bytes, neither is written.
+pub fn print_list(
+    options: u8,
+    version: u8,
+    list: &[u8],
+    answers: &mut [u8],
+    out: &mut [u8],
+) -> Printout
+    ensures { λ r. ⌜ Printed (settingsOf options version builtIn) (now (list .entry)) (now (answers .entry)) (now (out .entry)) r (now (answers .exit)) (now (out .exit)) ⌝ }
 {
     if is_refused(list.len()) {
-        return print_refused(out);
+        let written = print_refused(out);
+        return Printout {
+            refusal: BAD_LIST,
+            written,
+        };
     }
     let count = list.len() / 3;
     if answers.len() < 9 * count {
-        return 0;
+        return Printout {
+            refusal: NO_ROOM,
+            written: 0,
+        };
     }
     if out.len() < 28 + 27 * count {
-        return 0;
+        return Printout {
+            refusal: NO_ROOM,
+            written: 0,
+        };
     }
-    run_fresh(settings, list, answers);
-    print_answers(count, answers, out)
+    run_fresh(options, version, list, answers);
+    let written = print_answers(count, answers, out);
+    Printout {
+        refusal: 0,
+        written,
+    }
 }

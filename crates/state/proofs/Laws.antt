@@ -6,3 +6,4 @@ pub mod Flags
 pub mod Body
 pub mod Changed
 pub mod Told
+pub mod Started

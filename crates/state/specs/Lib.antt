@@ -2,3 +2,4 @@ pub mod Flags
 pub mod View
 pub mod Changed
 pub mod Told
+pub mod Started

@@ -11,7 +11,6 @@ use Rattle.translation.specs.Bits.{has, nibble}
 use Rattle.machine.specs.Settings.{Settings, settingsOf}
 use Rattle.machine.specs.State.{Machine, Public}
 use Rattle.state.specs.Flags.{flagsOf}
-use Rattle.state.specs.declared.settings.Settings as program
 
 -- how many bytes the state has
 abbrev pub stateLength : ℕ
@@ -115,7 +114,3 @@ view s = record { plain = public s; secret = record { code = codeOf s; position 
 -- The bytes are exactly those of their machine: unused bits and bytes are 0.
 abbrev pub IsState : List ℕ → Type 0
 IsState s = s ≡ stateOf (view s)
-
--- the settings that a caller's struct names
-abbrev pub named : program.Settings → Settings
-named x = record { mouseLock = x .«mouse_lock»; atMode = x .«at_mode»; secondSet = x .«second_set»; version = x .«version»; table = x .«table» }

@@ -3,6 +3,5 @@ pub mod bits;
 pub mod code;
 pub mod errors;
 pub mod flags;
-pub mod settings;
 pub mod state;
 pub mod told;

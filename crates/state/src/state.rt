@@ -1,14 +1,16 @@
 // The controller's state: bytes that a run changes in place. The first sixty are those of a saved image's body; the settings and what AT mode
 // and the second command set add stand behind them, the key table last.
-use crate::settings::Settings;
-use crate::settings::options_of;
-use translation::key_table::Table;
+use crate::bits::nibble;
+use translation::key_table::built_in;
+use translation::key_table::table_refusal;
 ghost use mathlib.Core.Path.{_≡_};
-ghost use Prim.Native.Nat.{_≤_};
 ghost use mathlib.Core.List.{_++_};
 ghost use lib.ListN.{length, take};
+ghost use Rattle.translation.specs.KeyTable.{builtIn};
+ghost use Rattle.machine.specs.Settings.{settingsOf};
 ghost use Rattle.machine.specs.State.{fresh};
-ghost use Rattle.state.specs.View.{stateLength, stateOf, view, named};
+ghost use Rattle.state.specs.View.{stateLength, stateOf, view};
+ghost use Rattle.state.specs.Started.{Started, TableStarted};
 
 pub type State = [u8; 321];
 
@@ -74,26 +76,54 @@ pub fn sized(s: State)
 {}
 
 // The state with this key table.
-fn with_table(s: State, table: Table) -> State
-    ensures { λ r. ⌜ r ≡ take 65 s ++ table ⌝ }
+fn with_table(s: State, table: &[u8]) -> State
+    requires { ⌜ length (now table) ≡ 256 ⌝ }
+    ensures { λ r. ⌜ r ≡ take 65 s ++ now (table .entry) ⌝ }
 {
     let mut tabled = s;
-    bytes::copy(&table, &mut tabled[TABLE..]);
+    bytes::copy(table, &mut tabled[TABLE..]);
     tabled
 }
 
-// A controller after power-on.
-pub fn start(settings: Settings) -> State
-    ensures { λ r. ⌜ (r ≡ stateOf (fresh (named settings))) × (view r ≡ fresh (named settings)) ⌝ }
+// A controller after power-on: the settings that a byte of options names, a version byte, a key table. With the mouse lock (bit 0) the key switch
+// keeps the mouse from the host as well. AT mode (bit 1) has no mouse and no lock code. The second command set (bit 2) is the VT82C42's; its firmware
+// can ask for the version byte.
+fn started(options: u8, version: u8, table: &[u8]) -> State
+    requires { ⌜ length (now table) ≡ 256 ⌝ }
+    ensures { λ r. ⌜ (let x = settingsOf options version (now (table .entry)) in (r ≡ stateOf (fresh x)) × (view r ≡ fresh x)) ⌝ }
 {
     let mut s = [0u8; 321];
     s[PINS] = 0xFF;
     s[LATCHES] = 3;
     s[MODE] = 0x70;
-    s[OPTIONS] = options_of(settings);
+    s[OPTIONS] = nibble(
+        options / 1 % 2 == 1,
+        options / 2 % 2 == 1,
+        options / 4 % 2 == 1,
+        false,
+    );
     s[INPUT_LATCHES] = 0x3F;
     s[HIGH_LATCHES] = 3;
-    s[VERSION] = settings.version;
-    let table = settings.table;
+    s[VERSION] = version;
     with_table(s, table)
+}
+
+// A controller after power-on, with the built-in key table.
+pub fn start(options: u8, version: u8) -> State
+    ensures { λ r. ⌜ Started (settingsOf options version builtIn) r ⌝ }
+{
+    let table = built_in();
+    started(options, version, &table)
+}
+
+// The same with a key table of the caller's: 0, or the number that refuses the table with the state as it was.
+pub fn start_with_table(s: &mut State, options: u8, version: u8, table: &[u8]) -> u8
+    ensures { λ r. ⌜ TableStarted options version (now (table .entry)) (now (s .entry)) r (now (s .exit)) ⌝ }
+{
+    let refusal = table_refusal(table);
+    if refusal != 0 {
+        return refusal;
+    }
+    *s = started(options, version, table);
+    0
 }

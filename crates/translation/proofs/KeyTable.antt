@@ -3,15 +3,15 @@
 use Prim.Native.Nat.{ℕ, zero, suc, _+_, _-_, _<_, _≤_, suc-le-suc}
 use mathlib.Core.Path.{_≡_, refl, ap, _∙_, sym}
 use mathlib.Core.Bool.{true, false}
-use mathlib.Core.List.{List, [], _∷_, _++_, append-nil}
+use mathlib.Core.List.{List, [], _∷_}
 use mathlib.Core.Logic.{_⊎_, inl, inr, ⊎-elim}
 use native.Mathlib.Nat.{not-suc-le-zero, le-of-suc-le-suc}
 use native.Mathlib.Omega.{arith}
-use lib.ListN.{length, getD, take, drop, set, replicate, length-take, length-set, length-replicate, getD-replicate, drop-of-length-le, List·getD-eq-default}
-use lib.Seq.{take-all, getD-take, getD-drop, getD-set-same, getD-set-other}
+use lib.ListN.{length, getD, take, drop, set, replicate, length-take, length-set, length-replicate, getD-replicate, List·getD-eq-default}
+use lib.Seq.{getD-take, getD-drop, getD-set-same, getD-set-other}
 use lib.Dec.{eqb, ltb}
 use borrow.Author.Tests.{eq-eqb, ne-eqb, eqb-true, eqb-false, ltb-true, ltb-false}
-use Rattle.translation.specs.KeyTable.{rows, builtIn, numbersFrom, occurrences, eachOnce, permutes, Permutation, fixed, tableRefusal, tableAfter}
+use Rattle.translation.specs.KeyTable.{rows, builtIn, numbersFrom, occurrences, eachOnce, permutes, Permutation, fixed, tableRefusal}
 use Rattle.translation.proofs.Tests.{split, and-true, every-below}
 
 -- the built-in table holds bytes
@@ -168,12 +168,6 @@ builtIn-permutes = refl
 pub builtIn-permutation : Permutation builtIn
 builtIn-permutation = permutation builtIn builtIn-permutes
 
--- tableRefusal
-
-pub builtIn-passes : tableRefusal builtIn ≡ 0
-unfolding tableRefusal permutes fixed builtIn rows
-builtIn-passes = refl
-
 -- tally: what has been seen, byte by byte
 
 pub occurrences-le : (v : ℕ) (xs : List ℕ) → occurrences v xs ≤ length xs
@@ -273,15 +267,15 @@ module _ (t : List ℕ) where
       split (fixed t) (λ e. e)
       (λ e. absurd (omega (arith, none, refused-fixed (accepted-length none) (accepted-permutes none) e)))
 
-  -- the table after a start
-  pub after-refused : (old : List ℕ) → (tableRefusal t ≡ 0 → ⊥) → old ≡ tableAfter old t
-  after-refused old stands = simp (ne-eqb (tableRefusal t) 0 stands)
+-- the built-in table passes every check
 
-  pub after-accepted : (old : List ℕ) → tableRefusal t ≡ 0 → t ≡ tableAfter old t
-  after-accepted old none = simp (eq-eqb (tableRefusal t) 0 none)
+builtIn-length : length builtIn ≡ 256
+unfolding builtIn rows
+builtIn-length = refl
 
--- a copy over as many bytes is the whole table
-pub whole-copy : (t old : List ℕ) → length t ≡ length old → take (length t) t ++ drop (length t) old ≡ t
-whole-copy t old same =
-    ap (λ (rest : List ℕ). take (length t) t ++ rest) (drop-of-length-le old {i = length t} (omega arith))
-    ∙ append-nil (take (length t) t) ∙ take-all (length t) t (omega arith)
+builtIn-fixed : fixed builtIn ≡ true
+unfolding fixed builtIn rows
+builtIn-fixed = refl
+
+pub builtIn-passes : tableRefusal builtIn ≡ 0
+builtIn-passes = sym (refused-none builtIn builtIn-length builtIn-permutes builtIn-fixed)

@@ -68,7 +68,3 @@ fixed table =
 -- Check 13: the length is not 256. Check 14: not each of 01h-7Fh once. Check 15: one of the fixed entries differs.
 unfoldable pub tableRefusal : List ℕ → ℕ
 tableRefusal table = cond (eqb (length table) 256) (cond (permutes table) (cond (fixed table) 0 15) 14) 13
-
--- The table in use after a start that names one: that one, or the old one where a check refuses it.
-abbrev pub tableAfter : List ℕ → List ℕ → List ℕ
-tableAfter old table = cond (eqb (tableRefusal table) 0) table old

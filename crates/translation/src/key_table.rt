@@ -4,7 +4,7 @@ ghost use mathlib.Core.List.{List};
 ghost use Prim.Native.Nat.{ℕ, _≤_, _<_};
 ghost use lib.ListN.{length, getD};
 ghost use Rattle.translation.specs.KeyTable as key;
-ghost use Rattle.translation.specs.KeyTable.{builtIn, tableRefusal, tableAfter};
+ghost use Rattle.translation.specs.KeyTable.{builtIn, tableRefusal};
 
 // The built-in table, an entry for each byte; a comment names the byte that a row starts at.
 const BUILT_IN: [u8; 256] = [
@@ -294,12 +294,6 @@ const BAD_KEYS: u8 = 14;
 
 const BAD_FIXED: u8 = 15;
 
-// The result of choosing a table: 0 or the refusal, and the table in use from then on.
-pub struct Chosen {
-    pub refusal: u8,
-    pub table: Table,
-}
-
 pub fn built_in() -> Table
     ensures { λ r. ⌜ r ≡ builtIn ⌝ }
 {
@@ -374,32 +368,5 @@ pub fn table_refusal(table: &[u8]) -> u8
         if fixed(table) { 0 } else { BAD_FIXED }
     } else {
         BAD_KEYS
-    }
-}
-
-// A table as an array.
-fn copied(table: &[u8]) -> Table
-    requires { ⌜ length (now table) ≡ 256 ⌝ }
-    ensures { λ r. ⌜ r ≡ now (table .entry) ⌝ }
-{
-    let mut copy = [0u8; 256];
-    bytes::copy(table, &mut copy);
-    copy
-}
-
-// The table that a start names, or the refusal with the old one kept.
-pub fn choose_table(old: Table, table: &[u8]) -> Chosen
-    ensures { λ r. ⌜ (r .refusal ≡ tableRefusal (now (table .entry))) × (r .table ≡ tableAfter old (now (table .entry))) ⌝ }
-{
-    let refusal = table_refusal(table);
-    if refusal != 0 {
-        return Chosen {
-            refusal,
-            table: old,
-        };
-    }
-    Chosen {
-        refusal: 0,
-        table: copied(table),
     }
 }

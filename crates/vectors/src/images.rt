@@ -10,7 +10,6 @@ use state::flags::with_breaks;
 use state::flags::with_command;
 use state::flags::with_errors;
 use state::flags::with_output;
-use state::settings::ordinary;
 use state::state::CODE;
 use state::state::FLAGS;
 use state::state::HIGH_LATCHES;
@@ -102,7 +101,7 @@ fn put_code(s: &mut State, n: u8) {
 
 // A state with something in each of its parts, and a lock code of n bytes.
 fn sample(n: u8) -> State {
-    let mut s = start(ordinary());
+    let mut s = start(0, 0);
     s[OUTPUT] = 0x41;
     s[FLAGS] = flags();
     s[PINS] = 0xA5;
@@ -161,7 +160,7 @@ fn try_save(out: &mut [u8]) {
 }
 
 fn try_load(bytes: &[u8]) {
-    let mut s = start(ordinary());
+    let mut s = start(0, 0);
     let refusal = load(&mut s, bytes);
     let mut out = [0u8; 68];
     save(&s, &mut out);

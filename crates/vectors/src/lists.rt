@@ -2,11 +2,8 @@
 use crate::print::put;
 use crate::print::put_byte;
 use crate::text::part;
-use controller::run::run_fresh;
-use state::settings::settings_of;
+use controller::run::run_with_table;
 use translation::key_table::Table;
-use translation::key_table::built_in;
-use translation::key_table::choose_table;
 ghost use mathlib.Core.Path.{_≡_};
 ghost use Prim.Native.Nat.{_<_};
 ghost use lib.ListN.{length};
@@ -114,13 +111,7 @@ fn put_outcome(refusal: u8, answers: &[u8], written: usize) {
 // A list run from a start: the number of the check that refuses the table or the list, 0 for none.
 fn run(case: Case, list: &[u8], answers: &mut [u8]) -> u8 {
     let table = case.table;
-    let chosen = choose_table(built_in(), &table);
-    if chosen.refusal != 0 {
-        return chosen.refusal;
-    }
-    let own = chosen.table;
-    let settings = settings_of(case.options, case.version, own);
-    run_fresh(settings, list, answers)
+    run_with_table(case.options, case.version, &table, list, answers)
 }
 
 // An answer buffer before a run.

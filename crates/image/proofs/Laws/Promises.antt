@@ -7,7 +7,7 @@ use native.Mathlib.Omega.{arith}
 use lib.ListN.{length, take, drop, replicate, length-take}
 use borrow.Author.Tests.{not-true, not-false}
 use Rattle.translation.proofs.Lists.{handed, Below}
-use Rattle.machine.specs.Settings.{Settings, ordinary}
+use Rattle.machine.specs.Settings.{ordinary}
 use Rattle.machine.specs.State.{fresh}
 use Rattle.state.specs.View.{stateLength, beyond, stateOf, view, IsState}
 use Rattle.machine.proofs.Laws.Kept.{ordinary-kept}
@@ -92,20 +92,19 @@ module _ {s bytes : List ℕ} where
         load-refused (loadRefusal-broken bytes (some-ends bytes here some) judged) (λ e. omega arith)
 
     -- one that is copied over a fresh state
-    pub load-stored : {kept : Bool} {x : Settings} {t s′ : List ℕ} → Below 256 bytes →
+    pub load-stored : {kept : Bool} {t s′ : List ℕ} → Below 256 bytes →
         kept ≡ bodyKept b′ →
         not kept ≡ false →
-        x ≡ ordinary →
-        t ≡ stateOf (fresh x) →
+        t ≡ stateOf (fresh ordinary) →
         s′ ≡ copied b′ t →
         Loaded s bytes 0 s′
-    load-stored {t = t} {s′ = s′} bound test keeps plain start stored =
+    load-stored {t = t} {s′ = s′} bound test keeps start stored =
         let whole = found-taken bytes here some taken in
         let judged = sym (test ∙ ap bodyKept whole) ∙ not-false _ keeps in
         let z = loadRefusal-kept bytes (some-ends bytes here some) judged in
         let long : length b′ ≡ bodyLength = ap length (whole ∙ sym here) ∙ some-long bytes here some in
         let behind : drop (length b′) t ≡ beyond (fresh ordinary .plain) =
-        ap₂ drop long (start ∙ ap (λ (x : Settings). stateOf (fresh x)) plain)
+        ap₂ drop long start
         ∙ drop-body (fresh ordinary) (ordinary-kept .code) (ordinary-kept .ram) in
         let same : s′ ≡ stateFrom (found bytes) = stored ∙ copied-front b′ t ∙ ap₂ (λ (x y : List ℕ). x ++ y) whole behind in
         let isState : IsState s′ = subst IsState (sym same) (found-isState bytes z) in

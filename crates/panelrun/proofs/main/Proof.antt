@@ -14,9 +14,6 @@ slice-aggregate-read-full c = search needs
 read-full-requires : tie.Need-read-full-requires
 read-full-requires c κs = search needs
 
-ordinary-requires : tie.Need-ordinary-requires
-ordinary-requires c κs = search needs
-
 array-share-prefix-list : tie.Need-array-share-prefix-list
 array-share-prefix-list c = search needs
 
@@ -35,12 +32,12 @@ print-list-requires c κs = search needs
 array-share-prefix-page : tie.Need-array-share-prefix-page
 array-share-prefix-page c =
     let p = c .before .before .print-list in
-    omega (arith, printed-within (p .ensures), p .kept .1 .1 .1 .0)
+    omega (arith, printed-within (p .ensures), p .kept .1 .1 .1 .1 .0)
 
 slice-aggregate-write-all : tie.Need-slice-aggregate-write-all
 slice-aggregate-write-all c =
     let p = c .before .before .before .print-list in
-    sym (length-take-le (p .result) (p .last .1 .1 .1 .0) (printed-within (p .ensures)))
+    sym (length-take-le (p .result .written) (p .last .1 .1 .1 .1 .0) (printed-within (p .ensures)))
 
 write-all-requires : tie.Need-write-all-requires
 write-all-requires c κs = search needs
@@ -54,7 +51,6 @@ main-spec =
     (tie.spec
     slice-aggregate-read-full
     read-full-requires
-    ordinary-requires
     array-share-prefix-list
     slice-aggregate-print-list
     slice-aggregate-print-list-2

@@ -13,6 +13,7 @@ use Rattle.machine.specs.Run.{events, answers, filled, lengthRefusal, listRefus
 use Rattle.machine.proofs.Laws.Cond.{cond-both, or-false}
 use Rattle.machine.proofs.Laws.Run.{length-events, length-answers}
 use Rattle.printing.specs.Lines.{lines}
+use Rattle.printing.specs.declared.page.Printout.{Printout}
 use Rattle.printing.specs.Page.{header, refusedText, refusedLength, refused, answered, page, over, room, Written, Printed}
 use Rattle.translation.proofs.Lists.{handed, handed-on}
 use Rattle.controller.specs.Promises.{FreshRun}
@@ -115,33 +116,37 @@ module _ (x : Settings) (list space out : List ℕ) where
       simp (length-page x list a, lt-leb (28 + 27 * (length list / 3)) (length out) short, and-false-right)
 
 -- ---- Printed
+abbrev pub printout : ℕ → ℕ → Printout
+printout number n = record { refusal = number; written = n }
+
 split : {A : Type 0} (b : Bool) → (b ≡ true → A) → (b ≡ false → A) → A
 split true one other = one refl
 split false one other = other refl
 
 module _ (x : Settings) (list space out : List ℕ) {isRefused : Bool} (same : isRefused ≡ refused list) where
-  pub printed-refused : {r : ℕ} {out′ : List ℕ} → isRefused ≡ true → Written refusedText out r out′ → Printed x list space out r space out′
+  pub printed-refused : {n : ℕ} {out′ : List ℕ} → isRefused ≡ true → Written refusedText out n out′ → Printed x list space out (printout 7 n) space out′
   printed-refused stands w =
       let a = sym same ∙ stands in
       record {
+        refusal = simp a;
         count = simp (room-refused x list space out a, page-refused x list a) (w .count);
         answers = rw (answered-refused x list a) (sym (cond-both (λ (xs : List ℕ). xs ≡ space) (room x list space out) refl refl));
         text = simp (room-refused x list space out a, page-refused x list a) (w .text);
       }
 
-  printed-none : room x list space out ≡ false → Printed x list space out 0 space out
-  printed-none small = record { count = simp small; answers = simp small; text = simp small }
+  printed-none : isRefused ≡ false → room x list space out ≡ false → Printed x list space out (printout 8 0) space out
+  printed-none free small = record { refusal = simp (sym same ∙ free, small); count = simp small; answers = simp small; text = simp small }
 
-  pub printed-few : isRefused ≡ false → length space < 9 * (length list / 3) → Printed x list space out 0 space out
-  printed-few free few = printed-none (room-few-answers x list space out (sym same ∙ free) few)
+  pub printed-few : isRefused ≡ false → length space < 9 * (length list / 3) → Printed x list space out (printout 8 0) space out
+  printed-few free few = printed-none free (room-few-answers x list space out (sym same ∙ free) few)
 
-  pub printed-short : isRefused ≡ false → length out < 28 + 27 * (length list / 3) → Printed x list space out 0 space out
-  printed-short free short = printed-none (room-short-out x list space out (sym same ∙ free) short)
+  pub printed-short : isRefused ≡ false → length out < 28 + 27 * (length list / 3) → Printed x list space out (printout 8 0) space out
+  printed-short free short = printed-none free (room-short-out x list space out (sym same ∙ free) short)
 
-  pub printed-all : {n r : ℕ} {space′ out′ : List ℕ} → isRefused ≡ false → 9 * (length list / 3) ≤ length space → 28 + 27 * (length list / 3) ≤ length out →
-      FreshRun x list space space′ n →
-      (r ≡ 28 + 27 * (length list / 3)) × (out′ ≡ over (header ++ lines (length list / 3) space′) out) →
-      Printed x list space out r space′ out′
+  pub printed-all : {number n : ℕ} {space′ out′ : List ℕ} → isRefused ≡ false → 9 * (length list / 3) ≤ length space → 28 + 27 * (length list / 3) ≤ length out →
+      FreshRun x list space space′ number →
+      (n ≡ 28 + 27 * (length list / 3)) × (out′ ≡ over (header ++ lines (length list / 3) space′) out) →
+      Printed x list space out (printout 0 n) space′ out′
   unfolding filled
   printed-all {space′ = space′} free many long ran (count, text) =
       let a = sym same ∙ free in
@@ -153,6 +158,7 @@ module _ (x : Settings) (list space out : List ℕ) {isRefused : Bool} (same : i
       let printed : lines (length list / 3) space′ ≡ lines (length list / 3) (answered x list) =
       ap (lines (length list / 3)) bytes ∙ lines-append (length list / 3) (answered x list) (drop (length (answered x list)) space) (omega arith) in
       record {
+        refusal = simp (a, large);
         count = simp large (count ∙ sym (length-page x list a));
         answers = simp large bytes;
         text =
@@ -162,14 +168,14 @@ module _ (x : Settings) (list space out : List ℕ) {isRefused : Bool} (same : i
       }
 
 -- the text lies within its buffer
-pub printed-within : {x : Settings} {list space out : List ℕ} {r : ℕ} {space′ out′ : List ℕ} → Printed x list space out r space′ out′ → r ≤ length out′
+pub printed-within : {x : Settings} {list space out : List ℕ} {r : Printout} {space′ out′ : List ℕ} → Printed x list space out r space′ out′ → r .written ≤ length out′
 printed-within {x} {list} {space} {out} {r} {space′} {out′} p = split (room x list space out)
     (λ large.
-    let count : r ≡ length (page x list) = simp large at (p .count) in
+    let count : r .written ≡ length (page x list) = simp large at (p .count) in
     let text : out′ ≡ over (page x list) out = simp large at (p .text) in
     omega (arith, ap length text ∙ length-append (page x list) (drop (length (page x list)) out)))
     (λ small.
-    let count : r ≡ 0 = simp small at (p .count) in
+    let count : r .written ≡ 0 = simp small at (p .count) in
     omega arith)
 
 -- ---- the header at the front, the rest of the buffer handed on for the lines

@@ -28,9 +28,6 @@ returns-2 c =
     let some = taken .before .before in
     load-broken (some .before .find .ensures .contents) (some .if1 .left) (taken .copy .ensures .1) (c .before .body-kept .ensures) (c .if2 .taken)
 
-ordinary-requires : tie.Need-ordinary-requires
-ordinary-requires c κs = search needs
-
 start-requires : tie.Need-start-requires
 start-requires c κs = search needs
 
@@ -43,15 +40,14 @@ copy-requires-2 c κs = search needs
 returns-3 : tie.Need-returns-3
 returns-3 c =
     let started = c .before .before .before in
-    let kept = started .before .before in
+    let kept = started .before in
     let taken = kept .before .before .before .before in
     let some = taken .before .before in
     let found = some .before in
     load-stored (found .find .ensures .contents) (some .if1 .left) (taken .copy .ensures .1) (λ k. found .before .shared-slice-known .given k .fits)
     (kept .before .body-kept .ensures)
     (kept .if2 .left)
-    (started .before .ordinary .ensures)
-    (started .start .ensures .0)
+    (started .start .ensures .bytes)
     (c .copy2 .ensures .1)
 
 pub load-spec : {M : Type 1} → statement M
@@ -64,7 +60,6 @@ load-spec =
     copy-requires
     body-kept-requires
     returns-2
-    ordinary-requires
     start-requires
     slice-aggregate-copy-2
     copy-requires-2

@@ -14,9 +14,6 @@ returns c = refused-list (c .before .list-refusal .ensures) (c .if1 .taken)
 returns-2 : tie.Need-returns-2
 returns-2 c = refused-room (c .before .before .list-refusal .ensures) (c .before .if1 .left) (c .if2 .taken)
 
-ordinary-requires : tie.Need-ordinary-requires
-ordinary-requires c κs = search needs
-
 start-requires : tie.Need-start-requires
 start-requires c κs = search needs
 
@@ -25,7 +22,7 @@ load-requires c κs = search needs
 
 returns-3 : tie.Need-returns-3
 returns-3 c =
-    let enough = c .before .before .before .before .before in
+    let enough = c .before .before .before .before in
     let fits = enough .before in
     refused-load (fits .before .list-refusal .ensures) (fits .if1 .left) (enough .if2 .left) (c .before .load .ensures) (c .if3 .taken)
 
@@ -46,7 +43,7 @@ returns-4 c =
     let saved = c .before .before in
     let ran = saved .before .before .before .before .before in
     let good = ran .before .before .before in
-    let enough = good .before .before .before .before .before in
+    let enough = good .before .before .before .before in
     let fits = enough .before in
     loaded-ran-saved (fits .before .list-refusal .ensures) (fits .if1 .left) (enough .if2 .left) (good .before .load .ensures)
     (good .if3 .left)
@@ -60,7 +57,6 @@ run-image-spec =
     list-refusal-requires
     returns
     returns-2
-    ordinary-requires
     start-requires
     load-requires
     returns-3

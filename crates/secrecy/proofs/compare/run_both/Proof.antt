@@ -5,11 +5,11 @@ use borrow.Author.Needs.{needs}
 use Rattle.secrecy.proofs.compare.run_both.Statement.{statement}
 use Rattle.secrecy.proofs.compare.run_both.Tie as tie
 
-run-fresh-requires : tie.Need-run-fresh-requires
-run-fresh-requires c κs = search needs
+run-with-table-requires : tie.Need-run-with-table-requires
+run-with-table-requires c κs = search needs
 
-run-fresh-requires-2 : tie.Need-run-fresh-requires-2
-run-fresh-requires-2 c κs = search needs
+run-with-table-requires-2 : tie.Need-run-with-table-requires-2
+run-with-table-requires-2 c κs = search needs
 
 same-length : tie.Need-same-length
 same-length c = search needs
@@ -22,4 +22,5 @@ returns c = search compared
 
 pub run-both-spec : {M : Type 1} → statement M
 run-both-spec =
-    tie.close (tie.spec run-fresh-requires run-fresh-requires-2 same-length same-length-2 returns)
+    tie.close
+    (tie.spec run-with-table-requires run-with-table-requires-2 same-length same-length-2 returns)

@@ -1,51 +1,21 @@
--- `state::state::start` meets its contract. The bytes stored are those of the fresh machine.
+-- `state::state::start` meets its contract. The built-in table passes the checks, so that the body rules are kept.
 -- Assumes nothing.
 use borrow.Author.Needs.{needs}
-use Rattle.state.proofs.Laws.Body.{fresh-started}
+use Rattle.state.proofs.Laws.Started.{started-builtIn}
 use Rattle.state.proofs.state.start.Statement.{statement}
 use Rattle.state.proofs.state.start.Tie as tie
 
-array-write-s : tie.Need-array-write-s
-array-write-s c = search needs
+built-in-requires : tie.Need-built-in-requires
+built-in-requires c κs = search needs
 
-array-write-s-2 : tie.Need-array-write-s-2
-array-write-s-2 c = search needs
+slice-aggregate-started : tie.Need-slice-aggregate-started
+slice-aggregate-started c = search needs
 
-array-write-s-3 : tie.Need-array-write-s-3
-array-write-s-3 c = search needs
-
-options-of-requires : tie.Need-options-of-requires
-options-of-requires c κs = search needs
-
-array-write-s-4 : tie.Need-array-write-s-4
-array-write-s-4 c = search needs
-
-array-write-s-5 : tie.Need-array-write-s-5
-array-write-s-5 c = search needs
-
-array-write-s-6 : tie.Need-array-write-s-6
-array-write-s-6 c = search needs
-
-array-write-s-7 : tie.Need-array-write-s-7
-array-write-s-7 c = search needs
-
-with-table-requires : tie.Need-with-table-requires
-with-table-requires c κs = search needs
+started-requires : tie.Need-started-requires
+started-requires c κs = search needs
 
 returns : tie.Need-returns
-returns c = fresh-started _ (c .before .before .options-of .ensures) (c .with-table .ensures)
+returns c = search started-builtIn
 
 pub start-spec : {M : Type 1} → statement M
-start-spec =
-    tie.close
-    (tie.spec
-    array-write-s
-    array-write-s-2
-    array-write-s-3
-    options-of-requires
-    array-write-s-4
-    array-write-s-5
-    array-write-s-6
-    array-write-s-7
-    with-table-requires
-    returns)
+start-spec = tie.close (tie.spec built-in-requires slice-aggregate-started started-requires returns)

@@ -1,12 +1,10 @@
 -- `state::state::with_table` meets its contract: 256 bytes are copied over the last of the state.
 -- Assumes nothing.
 use borrow.Author.Needs.{needs}
+use denote.Ref.{now}
 use Rattle.state.proofs.Laws.Body.{table-put}
 use Rattle.state.proofs.state.with_table.Statement.{statement}
 use Rattle.state.proofs.state.with_table.Tie as tie
-
-slice-aggregate-copy : tie.Need-slice-aggregate-copy
-slice-aggregate-copy c = search needs
 
 sub-copy : tie.Need-sub-copy
 sub-copy c = search needs
@@ -23,13 +21,12 @@ copy-requires c κs = search needs
 returns : tie.Need-returns
 returns c =
     let args = c .before .before .before .before .args in
-    table-put (args .s) (args .t2) (search needs) (search needs) (c .before .copy .ensures .1)
+    table-put (args .s) (now (args .table)) (search needs) (search needs) (c .before .copy .ensures .1)
 
 pub with-table-spec : {M : Type 1} → statement M
 with-table-spec =
     tie.close
     (tie.spec
-    slice-aggregate-copy
     sub-copy
     part-tabled-start
     part-tabled-end
