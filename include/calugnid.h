@@ -365,11 +365,14 @@ uint8_t calugnid_run_state(uint8_t *state,
                            uint8_t *answers, size_t answers_length);
 
 /* Runs a list of any length, as far as the answers have room: a third of
- * `list_length` or a ninth of `answers_length` events, whichever is fewer. One
- * or two bytes at the list's end are no event. */
-void calugnid_run_fitting(uint8_t *state,
-                          const uint8_t *list, size_t list_length,
-                          uint8_t *answers, size_t answers_length);
+ * `list_length` or a ninth of `answers_length` events, whichever is fewer. That
+ * number is written to `*count`. 0, or 7 for a length that is no multiple of 3;
+ * refused, nothing changes. */
+CALUGNID_WARN_UNUSED
+uint8_t calugnid_run_fitting(uint8_t *state,
+                             const uint8_t *list, size_t list_length,
+                             uint8_t *answers, size_t answers_length,
+                             size_t *count);
 
 /* Saves to the first 68 bytes. The first 60 of these are the state's, which
  * leaves its settings out and what AT mode and the second command set add. 0 or

@@ -21,6 +21,7 @@ static const uint8_t expected[] = {
 static void try_lists(void)
 {
     uint8_t state[CALUGNID_STATE_BYTES], answers[sizeof expected];
+    size_t count = 99;
 
     CHECK(calugnid_run(CALUGNID_ORDINARY, 0, list, sizeof list, answers, sizeof answers) == 0);
     CHECK(memcmp(answers, expected, sizeof expected) == 0);
@@ -35,8 +36,10 @@ static void try_lists(void)
     CHECK(memcmp(answers, expected, sizeof expected) == 0);
     memset(answers, 0xA5, sizeof answers);
     calugnid_start(state, CALUGNID_ORDINARY, 0);
-    calugnid_run_fitting(state, list, sizeof list - 1, answers, 26);
-    CHECK(memcmp(answers, expected, 18) == 0 && answers[18] == 0xA5);
+    CHECK(calugnid_run_fitting(state, list, sizeof list - 1, answers, 26, &count) == CALUGNID_BAD_LIST);
+    CHECK(count == 99 && answers[0] == 0xA5);
+    CHECK(calugnid_run_fitting(state, list, sizeof list, answers, 26, &count) == 0);
+    CHECK(count == 2 && memcmp(answers, expected, 18) == 0 && answers[18] == 0xA5);
 }
 
 static void try_events(void)
@@ -141,6 +144,7 @@ static const uint8_t *const by_option[OPTION_CHOICES] = {shown, kept_back, no_mo
 static void try_lists_with_options(void)
 {
     uint8_t state[CALUGNID_STATE_BYTES], answers[sizeof shown];
+    size_t count;
 
     for (int options = 0; options < 256; options++) {
         const uint8_t *right = by_option[options % OPTION_CHOICES];
@@ -154,8 +158,8 @@ static void try_lists_with_options(void)
         CHECK(memcmp(answers, right, sizeof answers) == 0);
         calugnid_start(state, (uint8_t)options, VERSION);
         memset(answers, 0xA5, sizeof answers);
-        calugnid_run_fitting(state, turned, sizeof turned, answers, sizeof answers);
-        CHECK(memcmp(answers, right, sizeof answers) == 0);
+        CHECK(calugnid_run_fitting(state, turned, sizeof turned, answers, sizeof answers, &count) == 0);
+        CHECK(count == sizeof turned / CALUGNID_EVENT_BYTES && memcmp(answers, right, sizeof answers) == 0);
     }
 }
 

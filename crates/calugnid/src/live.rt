@@ -3,7 +3,7 @@ use controller::events::refusal;
 use controller::events::sent_byte;
 use controller::run::event;
 use controller::run::run;
-use controller::run::run_fitting;
+use controller::run::run_counted;
 use controller::run::show_lines;
 use image::load::load;
 use image::save::save;
@@ -15,7 +15,7 @@ ghost use Rattle.machine.specs.Settings.{settingsOf};
 ghost use Rattle.machine.specs.State.{fresh};
 ghost use Rattle.machine.specs.Events as events;
 ghost use Rattle.state.specs.View.{public, stateOf};
-ghost use Rattle.controller.specs.Promises.{EventAnswered, FittingRun, ListRun};
+ghost use Rattle.controller.specs.Promises.{EventAnswered, ListRun, CountedRun};
 ghost use Rattle.image.specs.Promises.{Saved, Loaded};
 ghost use Rattle.calugnid.specs.Values.{eventOf};
 
@@ -73,12 +73,17 @@ pub extern "C" fn calugnid_run_state(state: &mut State, list: &[u8], answers: &m
     run(state, list, answers)
 }
 
-// A list of any length, as far as the answers have room.
+// As many events of a list of any length as the answers have room for, and how many these are: 0, or 7 for a list that ends within an event.
 #[no_mangle]
-pub extern "C" fn calugnid_run_fitting(state: &mut State, list: &[u8], answers: &mut [u8])
-    ensures { λ _. ⌜ FittingRun (now (state .entry)) (now (list .entry)) (now (answers .entry)) (now (state .exit)) (now (answers .exit)) ⌝ }
+pub extern "C" fn calugnid_run_fitting(
+    state: &mut State,
+    list: &[u8],
+    answers: &mut [u8],
+    count: &mut usize,
+) -> u8
+    ensures { λ r. ⌜ CountedRun (now (state .entry)) (now (list .entry)) (now (answers .entry)) (now (count .entry)) r (now (state .exit)) (now (answers .exit)) (now (count .exit)) ⌝ }
 {
-    run_fitting(state, list, answers);
+    run_counted(state, list, answers, count)
 }
 
 // The state saved, but for its settings: 0, or 9 with nothing written.

@@ -1,10 +1,11 @@
 -- What the controller's calls promise, over the machine that the state's bytes stand for. Each says: the machine's rule on any bytes;
 -- every byte of the state, where they are those of their machine; and that the body rules are kept.
 use mathlib.Core.Path.{_≡_}
-use Prim.Native.Nat.{ℕ}
+use Prim.Native.Nat.{ℕ, _%_}
 use mathlib.Core.Bool.{cond}
 use mathlib.Core.List.{List, [], _∷_}
 use lib.Dec.{eqb}
+use lib.ListN.{length}
 use Rattle.translation.specs.KeyTable.{tableRefusal}
 use Rattle.machine.specs.Settings.{Settings, settingsOf}
 use Rattle.machine.specs.State.{fresh}
@@ -52,3 +53,15 @@ pub record TableRun (options version : ℕ) (table list space space′ : List �
   pub refusal : number ≡ tableRunRefusal table list space
   pub refused : (tableRunRefusal table list space ≡ 0 → ⊥) → space′ ≡ space
   pub answered : tableRunRefusal table list space ≡ 0 → space′ ≡ filled (fresh (settingsOf options version table)) (events list) space
+
+-- Check 7 of a list that may have any length: it ends within an event.
+abbrev pub remainderRefusal : List ℕ → ℕ
+remainderRefusal list = cond (eqb (length list % 3) 0) 0 7
+
+-- A list of any length, as far as the answer buffer has room, with the number of events that were run; or refused by 7 with everything as it was.
+pub record CountedRun (s list space : List ℕ) (count number : ℕ) (s′ space′ : List ℕ) (count′ : ℕ) : Type 0 where
+  pub refusal : number ≡ remainderRefusal list
+  pub refused : (remainderRefusal list ≡ 0 → ⊥) → (s′ ≡ s) × (space′ ≡ space) × (count′ ≡ count)
+  pub run : remainderRefusal list ≡ 0 → FittingRun s list space s′ space′
+  pub counted : remainderRefusal list ≡ 0 → count′ ≡ length (fitting list space)
+  pub kept : Kept (view s) → Kept (view s′)

@@ -4,7 +4,7 @@ use state::state::State;
 use state::state::start;
 use state::state::start_with_table;
 ghost use mathlib.Core.Path.{_≡_};
-ghost use Prim.Native.Nat.{_≤_, _<_};
+ghost use Prim.Native.Nat.{_≤_, _<_, min};
 ghost use lib.ListN.{length};
 ghost use Rattle.translation.specs.KeyTable.{builtIn};
 ghost use Rattle.machine.specs.Settings.{settingsOf};
@@ -12,7 +12,7 @@ ghost use Rattle.machine.specs.Events as events;
 ghost use Rattle.machine.specs.Events.{event};
 ghost use Rattle.machine.specs.Run.{first, lengthRefusal};
 ghost use Rattle.state.specs.View.{public};
-ghost use Rattle.controller.specs.Promises.{EventAnswered, FittingRun, ListRun, FreshRun, TableRun};
+ghost use Rattle.controller.specs.Promises.{EventAnswered, FittingRun, ListRun, FreshRun, TableRun, CountedRun};
 ghost use Rattle.controller.specs.Steps.{EventWritten, pieceEnd};
 
 // The longest list that a call takes, in bytes.
@@ -179,4 +179,23 @@ pub fn run_with_table(options: u8, version: u8, table: &[u8], list: &[u8], answe
         return number;
     }
     run(&mut s, list, answers)
+}
+
+// The lesser of two numbers.
+fn lesser(a: usize, b: usize) -> usize
+    ensures { λ r. ⌜ r ≡ min a b ⌝ }
+{
+    if a <= b { a } else { b }
+}
+
+// As many events of a list as the buffer has room for, and how many these are: 0, or 7 for a list that ends within an event.
+pub fn run_counted(s: &mut State, list: &[u8], answers: &mut [u8], count: &mut usize) -> u8
+    ensures { λ r. ⌜ CountedRun (now (s .entry)) (now (list .entry)) (now (answers .entry)) (now (count .entry)) r (now (s .exit)) (now (answers .exit)) (now (count .exit)) ⌝ }
+{
+    if list.len() % 3 != 0 {
+        return 7;
+    }
+    *count = lesser(answers.len() / 9, list.len() / 3);
+    run_fitting(s, list, answers);
+    0
 }

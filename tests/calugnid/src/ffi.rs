@@ -26,7 +26,8 @@ unsafe extern "C" {
         list_len: usize,
         answers: *mut u8,
         answers_len: usize,
-    );
+        count: *mut usize,
+    ) -> u8;
     pub fn calugnid_save(state: *const u8, saved: *mut u8, saved_len: usize) -> u8;
     pub fn calugnid_load(state: *mut u8, image: *const u8, image_len: usize) -> u8;
     pub fn calugnid_lines(state: *const u8, answer: *mut u8);

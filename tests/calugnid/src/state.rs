@@ -81,18 +81,26 @@ impl State {
         }
     }
 
-    /// Runs a list of any length as far as the answers have room.
-    pub fn run_fitting(&mut self, list: &[u8], answers: &mut [u8]) {
-        // SAFETY: as for `run`.
-        unsafe {
+    /// Runs a list of any length as far as the answers have room, and hands
+    /// back how many events that were, or the refusal number.
+    pub fn run_fitting(&mut self, list: &[u8], answers: &mut [u8]) -> Result<usize, u8> {
+        let mut count = usize::MAX;
+        // SAFETY: as for `run`; the last pointer is to a number.
+        let refusal = unsafe {
             ffi::calugnid_run_fitting(
                 self.pointer(),
                 list.as_ptr(),
                 list.len(),
                 answers.as_mut_ptr(),
                 answers.len(),
+                &mut count,
             )
+        };
+        if refusal == 0 {
+            return Ok(count);
         }
+        assert_eq!(count, usize::MAX, "a refused call leaves the count");
+        Err(refusal)
     }
 
     /// Saves to the front of a buffer and hands back the refusal number.

@@ -90,7 +90,7 @@ fn every_noise_frame_in_every_scene(settings: Settings) {
 fn run(settings: Settings, list: &[u8]) -> (Vec<u8>, State) {
     let mut state = starts::fresh(settings);
     let mut answers = vec![0; list.len() / EVENT_SIZE * ANSWER_SIZE];
-    state.run_fitting(list, &mut answers);
+    assert_eq!(state.run_fitting(list, &mut answers), Ok(list.len() / EVENT_SIZE));
     (answers, state)
 }
 
