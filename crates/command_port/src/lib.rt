@@ -1,3 +1,2 @@
-// Port 64h: the kinds 2 and 3, each a whole event with its checks.
+// Port 64h: kind 3, a whole event with its checks. What a read of it gives is the status, which every answer has.
 pub mod commands;
-pub mod status;

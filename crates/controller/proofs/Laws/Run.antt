@@ -7,7 +7,7 @@ use native.Mathlib.Omega.{arith}
 use lib.Dec.{leb, ltb, eqb}
 use borrow.Author.Tests.{leb-true, leb-false, ltb-true, ltb-false, eqb-true, eq-eqb}
 use Rattle.translation.proofs.Tests.{split, and-true}
-use lib.ListN.{length, set, take, drop, length-drop, length-append, length-take, drop-of-length-le, take-append-drop}
+use lib.ListN.{length, set, take, drop, length-set, length-drop, length-append, length-take, drop-of-length-le, take-append-drop}
 use lib.Seq.{take-at, drop-at, drop-drop, take-append-add}
 use Rattle.machine.specs.Settings.{Settings}
 use Rattle.machine.specs.State.{Machine, fresh}
@@ -16,14 +16,14 @@ use Rattle.machine.specs.Run.{events, first, after, answers, filled, fitting, l
 use Rattle.machine.specs.Kept.{Kept}
 use Rattle.state.specs.View.{view, public, stateOf}
 use Rattle.state.specs.Changed.{Changed}
-use Rattle.machine.proofs.Laws.Events.{reply-refused, refusal-kind}
 use Rattle.machine.proofs.Laws.Kept.{keeps}
 use Rattle.state.proofs.Laws.Changed.{chain, by-rule, untouched}
 use Rattle.translation.proofs.Lists.{take-rest, handed, handed-back}
 use Rattle.machine.proofs.Laws.Run.{length-answer, length-answers, after-kept, after-append, filled-none, filled-more, filled-append}
 use Rattle.machine.proofs.Laws.Run.{fitting-short, fitting-tight, fitting-more, fitting-all, length-piece, fitting-piece, fitting-split, fitting-cut}
 use Rattle.controller.specs.Promises.{EventAnswered, FittingRun, ListRun, FreshRun}
-use Rattle.controller.specs.Steps.{EventWritten, pieceEnd}
+use Rattle.controller.specs.Steps.{EventWritten, pieceEnd, linesLaid}
+use Rattle.controller.proofs.Laws.Events.{nine-laid}
 
 -- ---- FittingRun: a change by the events that fit, and the buffer
 fitting-run : {s s′ list space space′ : List ℕ} → Changed (λ m. after m (fitting list space)) s s′ → space′ ≡ filled (view s) (fitting list space) space →
@@ -278,9 +278,11 @@ answered {s} {answer₀ = answer₀} {e = e} nine one =
       kept = one .kept;
     }
 
--- the lines of a state: the answer to an event of no kind, without its number
-pub lines-shown : {s s′ reply : List ℕ} → EventAnswered s (event 9 0 0) s′ reply → set reply 0 0 ≡ standing (public s)
-lines-shown {s} {reply = reply} a =
-    let e = event 9 0 0 in
-    let number : 1 ≡ refusal (public s) e = sym (refusal-kind (public s) e (omega arith)) in
-    ap (λ (d : List ℕ). set d 0 0) (a .answered ∙ reply-refused (public s) e _ 1 number (λ none. omega arith))
+-- the lines of a state, in a buffer for one answer
+pub lines-shown : (s answer₀ : List ℕ) {reply : List ℕ} → length (set (set (set (set answer₀ 0 0) 1 0) 2 0) 5 0) ≡ 9 →
+    reply ≡ linesLaid (public s) (set (set (set (set answer₀ 0 0) 1 0) 2 0) 5 0) →
+    reply ≡ standing (public s)
+lines-shown s answer₀ long laid =
+    let nine : length answer₀ ≡ 9 = simp length-set at long in
+    laid ∙ nine-laid 0 0 0 0 (public s) answer₀ (omega (arith, nine))
+    ∙ ap (λ (d : List ℕ). standing (public s) ++ d) (drop-of-length-le answer₀ {i = 9} (omega (arith, nine))) ∙ append-nil (standing (public s))

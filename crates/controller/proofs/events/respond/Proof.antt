@@ -1,7 +1,7 @@
--- `controller::events::respond` meets its contract. What the event told and the lines after it are the nine bytes.
+-- `controller::events::respond` meets its contract. What the event told and the lines after it are the nine bytes; a read of 64h takes its byte from the lines.
 -- Assumes nothing.
 use borrow.Author.Needs.{needs}
-use Rattle.controller.proofs.Laws.Events.{written}
+use Rattle.controller.proofs.Laws.Events.{written-status, written-told}
 use Rattle.controller.proofs.events.respond.Statement.{statement}
 use Rattle.controller.proofs.events.respond.Tie as tie
 
@@ -11,11 +11,37 @@ act-requires c κs = search needs
 write-answer-requires : tie.Need-write-answer-requires
 write-answer-requires c κs = search needs
 
+slice-read-answers : tie.Need-slice-read-answers
+slice-read-answers c = search needs
+
+slice-write-answers : tie.Need-slice-write-answers
+slice-write-answers c = search needs
+
 same-length : tie.Need-same-length
 same-length c = search needs
 
 returns : tie.Need-returns
-returns c = search written
+returns c =
+    let wrote = c .before .before .before .before in
+    written-status (wrote .before .before .before .act .ensures) (wrote .write-answer .ensures) (c .before .if1 .taken)
+
+same-length-2 : tie.Need-same-length-2
+same-length-2 c = search needs
+
+returns-2 : tie.Need-returns-2
+returns-2 c =
+    let wrote = c .before .before .before in
+    written-told (wrote .before .before .before .act .ensures) (wrote .write-answer .ensures) (c .if1 .left)
 
 pub respond-spec : {M : Type 1} → statement M
-respond-spec = tie.close (tie.spec act-requires write-answer-requires same-length returns)
+respond-spec =
+    tie.close
+    (tie.spec
+    act-requires
+    write-answer-requires
+    slice-read-answers
+    slice-write-answers
+    same-length
+    returns
+    same-length-2
+    returns-2)
