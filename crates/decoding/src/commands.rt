@@ -52,10 +52,14 @@ fn not_in_set(s: &State, c: u8) -> bool
     }
 }
 
-// The command as it acts under the settings of the start: 00h, which does nothing, for one that mode or set leaves out.
+// The command as it acts under the settings of the start: 00h, which does nothing, for one that mode or set leaves out. Ordinary settings are asked for
+// first, by what the compiler makes one test.
 fn understood(s: &State, c: u8) -> u8
     ensures { λ r. ⌜ r ≡ command.understood (public (now (s .entry)) .settings) c ⌝ }
 {
+    if !at_mode(s) & !second_set(s) {
+        return if second_only(c) { 0 } else { c };
+    }
     if not_in_mode(s, c) {
         return 0;
     }
