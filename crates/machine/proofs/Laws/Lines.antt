@@ -237,15 +237,17 @@ module _ (p : Public) {low lines off : ℕ} {mouse keyboard : Bool} (isMouse : m
   module _ {full from : Bool} {high r : ℕ} (isFull : full ≡ p .output .full) (stands : full ≡ true) (isFrom : from ≡ p .output .mouse) where
     pub shown-mouse : from ≡ true → high ≡ 16 * highWith true p → r ≡ weight 32 (mouseInterrupt p) → atMode p ≡ false →
         (low + 1 + high + weight 2 (inputFull p) ≡ status p) × (lines + off + r ≡ outputPort p)
-    shown-mouse mouses isHigh made ps2 =
-        (status-parts p (sym isFull ∙ stands) (simp (ps2, sym isFull ∙ stands, sym isFrom ∙ mouses)) byte-low isHigh,
-        port-sum (mouse-requested p isFull isFrom stands mouses made) ps2)
+    shown-mouse mouses isHigh made ps2 = (
+      status-parts p (sym isFull ∙ stands) (simp (ps2, sym isFull ∙ stands, sym isFrom ∙ mouses)) byte-low isHigh,
+      port-sum (mouse-requested p isFull isFrom stands mouses made) ps2,
+    )
 
     pub shown-keyboard : from ≡ false → high ≡ 16 * highWith false p → r ≡ weight 16 (keyboardInterrupt p) → atMode p ≡ false →
         (low + 1 + high + weight 2 (inputFull p) ≡ status p) × (lines + off + r ≡ outputPort p)
-    shown-keyboard keyboards isHigh made ps2 =
-        (status-parts p (sym isFull ∙ stands) (simp (ps2, sym isFull ∙ stands, sym isFrom ∙ keyboards)) byte-low isHigh,
-        port-sum (keyboard-requested p isFull isFrom stands keyboards made) ps2)
+    shown-keyboard keyboards isHigh made ps2 = (
+      status-parts p (sym isFull ∙ stands) (simp (ps2, sym isFull ∙ stands, sym isFrom ∙ keyboards)) byte-low isHigh,
+      port-sum (keyboard-requested p isFull isFrom stands keyboards made) ps2,
+    )
 
 -- ---- putCell
 module _ (m : Machine) (k : ℕ) {b : ℕ} (read : b ≡ cellOf (m .plain) k) where

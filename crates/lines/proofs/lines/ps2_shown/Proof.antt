@@ -51,10 +51,11 @@ returns : tie.Need-returns
 returns c =
     let test = c .before .before in
     let port = test .before in
-    let low = port .before .before .before .before .before .before .nibble .ensures .0 in
-    (shown-empty _ (port .before .before .before .mouse-off .ensures) (port .before .keyboard-off .ensures) low (port .before .before .nibble2 .ensures .0)
-    (port .weight .ensures .0) (test .output-full .ensures) (not-true _ (c .before .if1 .taken)) (c .high-status .ensures .0),
-    omega (arith, low-most _ _ low, c .high-status .ensures .1))
+    let low = port .before .before .before .before .before .before .nibble .ensures .0 in (
+      shown-empty _ (port .before .before .before .mouse-off .ensures) (port .before .keyboard-off .ensures) low (port .before .before .nibble2 .ensures .0)
+          (port .weight .ensures .0) (test .output-full .ensures) (not-true _ (c .before .if1 .taken)) (c .high-status .ensures .0),
+      omega (arith, low-most _ _ low, c .high-status .ensures .1),
+    )
 
 from-mouse-requires : tie.Need-from-mouse-requires
 from-mouse-requires c κs = search needs
@@ -105,11 +106,12 @@ returns-2 c =
     let from = high .before .before in
     let test = from .before .before in
     let port = test .before in
-    let low = port .before .before .before .before .before .before .nibble .ensures .0 in
-    (shown-mouse _ (port .before .before .before .mouse-off .ensures) (port .before .keyboard-off .ensures) low (port .before .before .nibble2 .ensures .0)
-    (port .weight .ensures .0) (test .output-full .ensures) (not-false _ (from .before .if1 .left)) (from .from-mouse .ensures) (high .before .if2 .taken)
-    (high .high-status2 .ensures .0) (c .weight2 .ensures .0),
-    omega (arith, low-most _ _ low, high .high-status2 .ensures .1))
+    let low = port .before .before .before .before .before .before .nibble .ensures .0 in (
+      shown-mouse _ (port .before .before .before .mouse-off .ensures) (port .before .keyboard-off .ensures) low (port .before .before .nibble2 .ensures .0)
+          (port .weight .ensures .0) (test .output-full .ensures) (not-false _ (from .before .if1 .left)) (from .from-mouse .ensures) (high .before .if2 .taken)
+          (high .high-status2 .ensures .0) (c .weight2 .ensures .0),
+      omega (arith, low-most _ _ low, high .high-status2 .ensures .1),
+    )
 
 returns-3 : tie.Need-returns-3
 returns-3 c =
@@ -117,11 +119,12 @@ returns-3 c =
     let from = high .before .before in
     let test = from .before .before in
     let port = test .before in
-    let low = port .before .before .before .before .before .before .nibble .ensures .0 in
-    (shown-keyboard _ (port .before .before .before .mouse-off .ensures) (port .before .keyboard-off .ensures) low (port .before .before .nibble2 .ensures .0)
-    (port .weight .ensures .0) (test .output-full .ensures) (not-false _ (from .before .if1 .left)) (from .from-mouse .ensures) (high .before .if2 .left)
-    (high .high-status3 .ensures .0) (c .weight3 .ensures .0),
-    omega (arith, low-most _ _ low, high .high-status3 .ensures .1))
+    let low = port .before .before .before .before .before .before .nibble .ensures .0 in (
+      shown-keyboard _ (port .before .before .before .mouse-off .ensures) (port .before .keyboard-off .ensures) low (port .before .before .nibble2 .ensures .0)
+          (port .weight .ensures .0) (test .output-full .ensures) (not-false _ (from .before .if1 .left)) (from .from-mouse .ensures) (high .before .if2 .left)
+          (high .high-status3 .ensures .0) (c .weight3 .ensures .0),
+      omega (arith, low-most _ _ low, high .high-status3 .ensures .1),
+    )
 
 pub ps2-shown-spec : {M : Type 1} → statement M
 ps2-shown-spec =
