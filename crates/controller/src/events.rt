@@ -119,8 +119,10 @@ pub(crate) fn respond(s: &mut State, kind: u8, low: u8, high: u8, answers: &mut 
     let told = act(s, kind, low, high);
     let number = told.refusal;
     write_answer(s, told, answers);
-    if (kind == 2) & (number == 0) {
-        answers[1] = answers[3];
+    if kind == 2 {
+        if number == 0 {
+            answers[1] = answers[3];
+        }
     }
 }
 

@@ -2,7 +2,7 @@
 use Prim.Native.Nat.{ℕ, _+_, _/_, _%_, _≤_}
 use native.Mathlib.Omega.{arith}
 use mathlib.Core.Path.{_≡_, refl, ap, sym, _∙_}
-use mathlib.Core.Bool.{Bool, true, false, _&&_, true≢false}
+use mathlib.Core.Bool.{Bool, true, false, _&&_, and-false, true≢false}
 use mathlib.Core.List.{List, [], _∷_, _++_}
 use lib.Dec.{eqb}
 use lib.ListN.{length, drop, set, getD}
@@ -104,9 +104,14 @@ module _ {s s′ : List ℕ} {e : Event} {t : Told} {space mid : List ℕ} (told
       }
 
   -- an accepted read of 64h: the status is copied to where the byte read stands
-  pub written-status : (eqb (e .kind) 2 && eqb (t .refusal) 0) ≡ true → EventWritten s e space s′ (set mid 1 (getD mid 3 0))
-  written-status read =
+  pub written-status : e .kind ≡ 2 → t .refusal ≡ 0 → EventWritten s e space s′ (set mid 1 (getD mid 3 0))
+  written-status isRead none =
+      let read : (eqb (e .kind) 2 && eqb (t .refusal) 0) ≡ true = simp (eq-eqb (e .kind) 2 isRead, eq-eqb (t .refusal) 0 none) in
       written (ap (λ (d : List ℕ). set d 1 (getD d 3 0)) shown ∙ status-copied (t .refusal) (t .read) (t .old) (public s′) (t .pulse) (drop 9 space) ∙ simp read)
 
-  pub written-told : (eqb (e .kind) 2 && eqb (t .refusal) 0) ≡ false → EventWritten s e space s′ mid
-  written-told other = written (shown ∙ simp other)
+  -- a refused one, and any other event
+  pub written-refused : (t .refusal ≡ 0 → ⊥) → EventWritten s e space s′ mid
+  written-refused stands = written (shown ∙ simp (ne-eqb (t .refusal) 0 stands, and-false))
+
+  pub written-other : (e .kind ≡ 2 → ⊥) → EventWritten s e space s′ mid
+  written-other other = written (shown ∙ simp (ne-eqb (e .kind) 2 other))
