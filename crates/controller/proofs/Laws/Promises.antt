@@ -32,18 +32,20 @@ pub fresh-table-run : {options version : ℕ} {list space space′ : List ℕ} {
     TableRun options version builtIn list space space′ n
 fresh-table-run ran = table-run builtIn-passes ran
 
-module _ {options version number : ℕ} {table s s′ : List ℕ} (start : TableStarted options version table s number s′) where
-  pub table-run-refused : {list space : List ℕ} → (number ≡ 0 → ⊥) → TableRun options version table list space space number
-  table-run-refused {list} {space} some =
-      let stands : tableRefusal table ≡ 0 → ⊥ = λ none. some (start .refusal ∙ none) in
-      let same : tableRunRefusal table list space ≡ tableRefusal table = simp (ne-eqb (tableRefusal table) 0 stands) in
-      record { refusal = start .refusal ∙ sym same; refused = λ _. refl; answered = λ a. absurd (stands (sym same ∙ a)) }
+pub table-run-refused : {options version number : ℕ} {table list space : List ℕ} → number ≡ tableRefusal table → (number ≡ 0 → ⊥) →
+    TableRun options version table list space space number
+table-run-refused {table = table} {list} {space} judged some =
+    let stands : tableRefusal table ≡ 0 → ⊥ = λ none. some (judged ∙ none) in
+    let same : tableRunRefusal table list space ≡ tableRefusal table = simp (ne-eqb (tableRefusal table) 0 stands) in
+    record { refusal = judged ∙ sym same; refused = λ _. refl; answered = λ a. absurd (stands (sym same ∙ a)) }
 
-  pub table-run-accepted : {list space r space′ : List ℕ} {n : ℕ} → number ≡ 0 → ListRun s′ list space n r space′ →
-      TableRun options version table list space space′ n
-  table-run-accepted accepted ran =
-      let none = sym (start .refusal) ∙ accepted in
-      table-run none (fresh-run (start .started none .machine) ran)
+pub table-run-accepted : {options version number n : ℕ} {table list s s′ space r space′ : List ℕ} → TableStarted options version table s number s′ →
+    number ≡ 0 →
+    ListRun s′ list space n r space′ →
+    TableRun options version table list space space′ n
+table-run-accepted start accepted ran =
+    let none = sym (start .refusal) ∙ accepted in
+    table-run none (fresh-run (start .started none .machine) ran)
 
 -- ---- CountedRun
 pub counted-refused : {s list space : List ℕ} {count : ℕ} → (length list % 3 ≡ 0 → ⊥) → CountedRun s list space count 7 s space count
