@@ -33,16 +33,14 @@ use state::told::Told;
 use state::told::quiet;
 use vt82c42::second_set::second_command;
 ghost use mathlib.Core.Path.{_≡_};
-ghost use mathlib.Core.Bool.{false};
 ghost use Prim.Native.Nat.{_%_};
 ghost use Rattle.machine.specs.State.{withHost, afterCommand, lift};
-ghost use Rattle.machine.specs.Lines.{secondSet};
-ghost use Rattle.machine.specs.SecondSet.{secondOnly};
 ghost use Rattle.machine.specs.Commands as command;
 ghost use Rattle.machine.specs.Events.{event};
 ghost use Rattle.state.specs.View.{public, view};
 ghost use Rattle.state.specs.Changed.{Changed};
 ghost use Rattle.state.specs.Told.{EventTold};
+ghost use Rattle.command_port.specs.Promises.{ChangedBySet};
 
 // The command flag is set, the overlay ends, and the pending code and its cell are the command's own.
 fn command_written(s: &mut State, pending: u8, cell: u8)
@@ -149,10 +147,9 @@ fn show_high_lines(s: &mut State)
     overlay(s, shown);
 }
 
-// The commands that concern the public part alone. With the first set it is none of the second set's own.
+// The commands that concern the public part alone. The last arm asks for the set.
 fn plain_command(s: &mut State, c: u8)
-    requires { ⌜ (secondSet (public (now s)) ≡ false → secondOnly c ≡ false) ⌝ }
-    ensures { λ _. ⌜ Changed (lift (command.plainCommand c)) (now (s .entry)) (now (s .exit)) ⌝ }
+    ensures { λ _. ⌜ ChangedBySet c (lift (command.plainCommand c)) (now (s .entry)) (now (s .exit)) ⌝ }
 {
     match c {
         0x20..=0x3F => put_named_cell(s, c),
@@ -211,10 +208,9 @@ fn lock_command(s: &mut State)
     }
 }
 
-// What a command does that the mode and the set of the start have.
+// What a command does.
 fn act(s: &mut State, c: u8)
-    requires { ⌜ (secondSet (public (now s)) ≡ false → secondOnly c ≡ false) ⌝ }
-    ensures { λ _. ⌜ Changed (command.acts c) (now (s .entry)) (now (s .exit)) ⌝ }
+    ensures { λ _. ⌜ ChangedBySet c (command.acts c) (now (s .entry)) (now (s .exit)) ⌝ }
 {
     match c {
         0xA4 => ask_code(s),

@@ -11,7 +11,7 @@ ghost use Rattle.machine.specs.Lines.{atMode};
 ghost use Rattle.machine.specs.Commands as command;
 ghost use Rattle.machine.specs.SecondSet as second;
 ghost use Rattle.state.specs.View.{public};
-ghost use Rattle.decoding.specs.Promises.{CommandDecoded};
+ghost use Rattle.decoding.specs.Promises.{CommandDecoded, heard};
 
 // A command of PS/2 mode alone.
 fn ps2_only(c: u8) -> bool
@@ -52,13 +52,13 @@ fn not_in_set(s: &State, c: u8) -> bool
     }
 }
 
-// The command as it acts under the settings of the start: 00h, which does nothing, for one that mode or set leaves out. Ordinary settings are asked for
-// first, by what the compiler makes one test.
-fn understood(s: &State, c: u8) -> u8
-    ensures { λ r. ⌜ r ≡ command.understood (public (now (s .entry)) .settings) c ⌝ }
+// The command as it is looked up and acted on. With ordinary settings that is the byte itself: what only the second set has is looked up as nothing,
+// and asks for the set before it acts. Otherwise it is 00h, which does nothing, for one that mode or set leaves out.
+fn heard(s: &State, c: u8) -> u8
+    ensures { λ r. ⌜ r ≡ heard (public (now (s .entry)) .settings) c ⌝ }
 {
     if !at_mode(s) & !second_set(s) {
-        return if second_only(c) { 0 } else { c };
+        return c;
     }
     if not_in_mode(s, c) {
         return 0;
@@ -386,7 +386,7 @@ pub fn decode(s: &State, c: u8) -> Decoded
     ensures { λ r. ⌜ CommandDecoded (public (now (s .entry)) .settings) c r ⌝ }
 {
     let pulse = pulse_of(s, c);
-    let known = understood(s, c);
+    let known = heard(s, c);
     Decoded {
         command: known,
         pending: pending_of(known),

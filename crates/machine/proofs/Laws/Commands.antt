@@ -13,7 +13,7 @@ use Rattle.machine.specs.State.{Public, Machine, withHost, afterCommand,
 use Rattle.machine.specs.Lines.{atMode, secondSet, put, putCell, keyboardOff, mouseOff}
 use Rattle.machine.specs.Lines.{keyboardDisabled, keyboardEnabled, mouseDisabled, mouseEnabled}
 use Rattle.machine.specs.DataPort.{dropped}
-use Rattle.machine.specs.SecondSet.{secondOnly, secondCommand}
+use Rattle.machine.specs.SecondSet.{secondOnly, singleCommand, secondCommand}
 use Rattle.machine.specs.Commands.{ps2Only, firstOnly, notInSet, leftOut, understood, polled, pendingOf, cellNamed, loadCut}
 use Rattle.machine.specs.Commands.{selfTested, testInputs, testInputsPut}
 use Rattle.machine.specs.Commands.{lowLinesShown, highLinesShown, inputPortPut, outputPortPut, namedCellPut}
@@ -204,7 +204,7 @@ module _
           ne-eqb _ _ nE0,
         )
 
-    -- with the first set none of the second's own is left by then
+    -- with the second set, and with the first where it is none of the second's own
     module _ (known : secondSet (m .plain) ≡ false → secondOnly c ≡ false) where
       own : lift (λ p. cond (secondSet p) (secondCommand c p) p) m ≡ lift (secondCommand c) m
       own = ap (λ (p : Public). lift (λ _. p) m) (split (secondSet (m .plain)) (λ two. simp two) (λ one. simp one (sym (second-none c (m .plain) (known one)))))
@@ -233,6 +233,10 @@ module _ (m : Machine) (c : ℕ) where
   unfolding acts
   acts-other nA4 nA5 nA6 = simp (ne-eqb _ _ nA4, ne-eqb _ _ nA5, ne-eqb _ _ nA6)
 
+pub acts-none : (m : Machine) → acts 0 m ≡ m
+unfolding acts plainCommand secondCommand singleCommand
+acts-none m = refl
+
 -- ---- writeCommand
 pub writeCommand-known : (m : Machine) (c : ℕ) {known code cell : ℕ} → known ≡ understood (m .plain .settings) c →
     code ≡ pendingOf (understood (m .plain .settings) c) →
@@ -241,19 +245,10 @@ pub writeCommand-known : (m : Machine) (c : ℕ) {known code cell : ℕ} → kno
 unfolding writeCommand
 writeCommand-known m c isKnown isCode isCell = simp (isKnown, isCode, isCell)
 
--- the settings are still those that it was understood by, when it acts
+-- a load that is cut short leaves the settings
 pub loadCut-settings : (m : Machine) → loadCut m .plain .settings ≡ m .plain .settings
 unfolding loadCut
 loadCut-settings m = cond-both (λ (x : Machine). x .plain .settings ≡ m .plain .settings) (eqb (m .plain .host .pending) 3) refl refl
-
-pub acts-understood : (m n : Machine) (c : ℕ) {known code cell : ℕ} → known ≡ understood (m .plain .settings) c →
-    n ≡ lift (λ p. withHost p (afterCommand code cell)) (loadCut m) →
-    secondSet (n .plain) ≡ false →
-    secondOnly known ≡ false
-acts-understood m n c isKnown isNow one =
-    let first : m .plain .settings .secondSet ≡ false =
-    ap (λ (x : Settings). x .secondSet) (sym (loadCut-settings m)) ∙ ap (λ (x : Machine). secondSet (x .plain)) (sym isNow) ∙ one in
-    rw isKnown (understood-known (m .plain .settings) c .second first)
 
 -- ---- testInputs, pulseOf
 module _ (p : Public) {r : ℕ} {at′ off : Bool} (isAt : at′ ≡ atMode p) (isOff : off ≡ keyboardOff p) where

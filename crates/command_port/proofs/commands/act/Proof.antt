@@ -2,6 +2,7 @@
 -- Assumes nothing.
 use borrow.Author.Needs.{needs}
 use Rattle.state.proofs.Laws.Changed.{by-rule}
+use Rattle.command_port.proofs.Laws.{by-set}
 use Rattle.machine.proofs.Laws.Commands.{acts-A4, acts-A5, acts-A6, acts-other}
 use Rattle.command_port.proofs.commands.act.Statement.{statement}
 use Rattle.command_port.proofs.commands.act.Tie as tie
@@ -19,16 +20,18 @@ plain-command-requires : tie.Need-plain-command-requires
 plain-command-requires c κs = search needs
 
 returns : tie.Need-returns
-returns c = search (by-rule, acts-A4)
+returns c = search (by-set, by-rule, acts-A4)
 
 returns-2 : tie.Need-returns-2
-returns-2 c = search (by-rule, acts-A5)
+returns-2 c = search (by-set, by-rule, acts-A5)
 
 returns-3 : tie.Need-returns-3
-returns-3 c = search (by-rule, acts-A6)
+returns-3 c = search (by-set, by-rule, acts-A6)
 
 returns-4 : tie.Need-returns-4
-returns-4 c = search (by-rule, acts-other)
+returns-4 c =
+    let plain = c .plain-command .ensures in
+    record { known = λ known. by-rule (plain .known known) (search acts-other); left = plain .left }
 
 pub act-spec : {M : Type 1} → statement M
 act-spec =

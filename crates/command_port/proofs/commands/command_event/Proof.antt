@@ -3,7 +3,7 @@
 use mathlib.Core.Path.{refl}
 use borrow.Author.Needs.{needs}
 use Rattle.state.proofs.Laws.Told.{told-refused}
-use Rattle.command_port.proofs.Laws.{acts-known, command-done}
+use Rattle.command_port.proofs.Laws.{command-done}
 use Rattle.command_port.proofs.commands.command_event.Statement.{statement}
 use Rattle.command_port.proofs.commands.command_event.Tie as tie
 
@@ -26,10 +26,7 @@ command-written-requires : tie.Need-command-written-requires
 command-written-requires c κs = search needs
 
 act-requires : tie.Need-act-requires
-act-requires c κs =
-    let written = c .before in
-    let decoded = written .before .before in
-    acts-known (decoded .before .before .cut-load .ensures) (decoded .decode .ensures) (written .command-written .ensures)
+act-requires c κs = search needs
 
 returns-2 : tie.Need-returns-2
 returns-2 c =

@@ -1,11 +1,14 @@
 -- `command_port::commands::plain_command` meets its contract. Each arm is a case of the definition, which computes once the command is known.
 -- Assumes nothing.
+use mathlib.Core.Path.{refl, sym}
 use mathlib.Core.Logic.{⊎-elim}
 use borrow.Author.Needs.{needs}
 use native.Mathlib.Omega.{arith}
 use Rattle.machine.proofs.Laws.Commands.{command-A7, command-A8, command-A9, command-AA, command-AB, command-AD, command-AE}
 use Rattle.machine.proofs.Laws.Commands.{command-C0, command-C1, command-C2, command-D0, command-E0, command-cell, command-low, command-high}
+use Rattle.machine.proofs.Laws.SecondSet.{second-none-are, own-first}
 use Rattle.state.proofs.Laws.Changed.{by-rule}
+use Rattle.command_port.proofs.Laws.{by-set}
 use Rattle.command_port.proofs.commands.plain_command.Statement.{statement}
 use Rattle.command_port.proofs.commands.plain_command.Tie as tie
 
@@ -52,49 +55,53 @@ second-command-requires : tie.Need-second-command-requires
 second-command-requires c κs = search needs
 
 returns : tie.Need-returns
-returns c = search (by-rule, command-A7)
+returns c = search (by-set, by-rule, command-A7)
 
 returns-2 : tie.Need-returns-2
-returns-2 c = search (by-rule, command-A8)
+returns-2 c = search (by-set, by-rule, command-A8)
 
 returns-3 : tie.Need-returns-3
-returns-3 c = search (by-rule, command-A9)
+returns-3 c = search (by-set, by-rule, command-A9)
 
 returns-4 : tie.Need-returns-4
-returns-4 c = search (by-rule, command-AA)
+returns-4 c = search (by-set, by-rule, command-AA)
 
 returns-5 : tie.Need-returns-5
-returns-5 c = search (by-rule, command-AB)
+returns-5 c = search (by-set, by-rule, command-AB)
 
 returns-6 : tie.Need-returns-6
-returns-6 c = search (by-rule, command-AD)
+returns-6 c = search (by-set, by-rule, command-AD)
 
 returns-7 : tie.Need-returns-7
-returns-7 c = search (by-rule, command-AE)
+returns-7 c = search (by-set, by-rule, command-AE)
 
 returns-8 : tie.Need-returns-8
-returns-8 c = search (by-rule, command-C0)
+returns-8 c = search (by-set, by-rule, command-C0)
 
 returns-9 : tie.Need-returns-9
-returns-9 c = search (by-rule, command-C1)
+returns-9 c = search (by-set, by-rule, command-C1)
 
 returns-10 : tie.Need-returns-10
-returns-10 c = search (by-rule, command-C2)
+returns-10 c = search (by-set, by-rule, command-C2)
 
 returns-11 : tie.Need-returns-11
-returns-11 c = search (by-rule, command-D0)
+returns-11 c = search (by-set, by-rule, command-D0)
 
 returns-12 : tie.Need-returns-12
-returns-12 c = search (by-rule, command-E0)
+returns-12 c = search (by-set, by-rule, command-E0)
 
 returns-13 : tie.Need-returns-13
-returns-13 c = by-rule (c .put-named-cell .ensures) (command-cell _ _ (omega arith) (omega arith))
+returns-13 c =
+    by-set (by-rule (c .put-named-cell .ensures) (command-cell _ _ (omega arith) (omega arith))) refl
+    (sym (second-none-are 0x20 0x20 refl (c .before .before .before .before .before .args .c) (omega arith) (omega arith)))
 
 returns-14 : tie.Need-returns-14
 returns-14 c =
     let change = c .second-command .ensures .change in
-    let known = c .before .before .before .before .pre in
-    ⊎-elim (λ w. by-rule change (search (command-low, known))) (λ w. by-rule change (search (command-high, known))) (c .before .before .if1 .came)
+    record {
+      known = λ known. ⊎-elim (λ w. by-rule change (search (command-low, known))) (λ w. by-rule change (search (command-high, known))) (c .before .before .if1 .came);
+      left = λ one _. by-rule change (sym (own-first _ _ refl one));
+    }
 
 pub plain-command-spec : {M : Type 1} → statement M
 plain-command-spec =

@@ -1,16 +1,18 @@
--- `decoding::commands::decode` meets its contract. What the command leaves is looked up by the command as it was understood.
+-- `decoding::commands::decode` meets its contract. What the command leaves is looked up by the command as it was heard, which leaves the same as the one that is understood.
 -- Assumes nothing.
 use mathlib.Core.Path.{ap, _∙_}
 use borrow.Author.Needs.{needs}
+use Rattle.state.specs.View.{public}
 use Rattle.machine.specs.Commands.{pendingOf, cellNamed}
+use Rattle.decoding.proofs.Laws.{heard-leaves}
 use Rattle.decoding.proofs.commands.decode.Statement.{statement}
 use Rattle.decoding.proofs.commands.decode.Tie as tie
 
 pulse-of-requires : tie.Need-pulse-of-requires
 pulse-of-requires c κs = search needs
 
-understood-requires : tie.Need-understood-requires
-understood-requires c κs = search needs
+heard-requires : tie.Need-heard-requires
+heard-requires c κs = search needs
 
 pending-of-requires : tie.Need-pending-of-requires
 pending-of-requires c κs = search needs
@@ -20,11 +22,13 @@ cell-named-requires c κs = search needs
 
 returns : tie.Need-returns
 returns c =
-    let known = c .before .before .understood .ensures in
+    let known = c .before .before .heard .ensures in
+    let given = c .before .before .before .before .args in
+    let (code, cell) = heard-leaves (public (given .s .now) .settings) (given .c) (search needs) in
     record {
       command = known;
-      pending = c .before .pending-of .ensures ∙ ap pendingOf known;
-      cell = c .cell-named .ensures ∙ ap cellNamed known;
+      pending = c .before .pending-of .ensures ∙ ap pendingOf known ∙ code;
+      cell = c .cell-named .ensures ∙ ap cellNamed known ∙ cell;
       pulse = c .before .before .before .pulse-of .ensures;
     }
 
@@ -33,7 +37,7 @@ decode-spec =
     tie.close
     (tie.spec
     pulse-of-requires
-    understood-requires
+    heard-requires
     pending-of-requires
     cell-named-requires
     returns)
