@@ -1,0 +1,6 @@
+pub mod Counters
+pub mod Stored
+pub mod Packets
+pub mod Commands
+pub mod Trackball
+pub mod Worked

@@ -1,0 +1,17 @@
+-- `trackball::trackball::fresh` meets its contract.
+-- Assumes nothing.
+use borrow.Author.Needs.{needs}
+use Rattle.trackball.proofs.trackball.fresh.Statement.{statement}
+use Rattle.trackball.proofs.trackball.fresh.Tie as tie
+
+still-requires : tie.Need-still-requires
+still-requires c κs = search needs
+
+still-requires-2 : tie.Need-still-requires-2
+still-requires-2 c κs = search needs
+
+returns : tie.Need-returns
+returns c = cc
+
+pub fresh-spec : {M : Type 1} → statement M
+fresh-spec = tie.close (tie.spec still-requires still-requires-2 returns)

@@ -1,0 +1,7 @@
+pub mod Counters
+pub mod Trackball
+pub mod Packets
+pub mod Commands
+pub mod View
+pub mod Promises
+pub mod Worked
