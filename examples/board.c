@@ -1,17 +1,18 @@
-/* A small board: the controller, a keyboard and a mouse with queues of bytes,
- * and a host that starts up as a PC's firmware does. Prints what each does. */
+/* A small board: the controller, a keyboard and a mouse with queues of frames,
+ * and a host that starts up as a PC's firmware does. The mouse is the library's
+ * trackball. Prints what each does. */
 #include <stdio.h>
 #include <stdlib.h>
 #include <string.h>
 
 #include "calugnid.h"
 
-enum { QUEUE_BYTES = 16, POLLS_MOST = 100 };
+enum { QUEUE_FRAMES = 16, POLLS_MOST = 100 };
 
 struct device {
     const char *name;
     uint8_t kind; /* of the event that brings its frames */
-    uint8_t queue[QUEUE_BYTES];
+    uint16_t queue[QUEUE_FRAMES];
     size_t count;
 };
 
@@ -20,6 +21,8 @@ struct board {
     uint8_t p2; /* the lines as they are driven now */
     struct device keyboard, mouse;
     uint8_t opened_by; /* the key that opened the lock, until its release */
+    uint8_t trackball[CALUGNID_TRACKBALL_BYTES];
+    bool moved; /* since the last report was taken */
 };
 
 static void fail(const char *why)
@@ -68,33 +71,67 @@ static void board_start(struct board *board)
     calugnid_start(board->state, CALUGNID_ORDINARY, 0);
     calugnid_lines(board->state, lines);
     board->p2 = lines[CALUGNID_ANSWER_P2];
+    calugnid_trackball_start(board->trackball);
 }
 
 /* ---- The devices. */
 
-static void device_queue(struct device *device, uint8_t byte)
+static void device_queue(struct device *device, uint16_t frame)
 {
-    if (device->count == QUEUE_BYTES)
+    if (device->count == QUEUE_FRAMES)
         fail("a device's queue is full");
-    device->queue[device->count++] = byte;
+    device->queue[device->count++] = frame;
 }
 
 static void device_drop(struct device *device, size_t count)
 {
     device->count -= count;
-    memmove(device->queue, device->queue + count, device->count);
+    memmove(device->queue, device->queue + count, device->count * sizeof device->queue[0]);
 }
 
-/* FFh resets: the device acknowledges, reports that it works, and a mouse
- * adds its number. Any other command is acknowledged. */
-static void device_answer(struct device *device, uint8_t command)
+static void keyboard_queue(struct board *board, uint8_t byte)
 {
-    device_queue(device, 0xFA);
-    if (command != 0xFF)
+    device_queue(&board->keyboard, calugnid_frame(byte));
+}
+
+/* What a call of the trackball handed out. */
+static void mouse_queue(struct board *board, const uint16_t *frames, size_t count)
+{
+    for (size_t i = 0; i < count; i++)
+        device_queue(&board->mouse, frames[i]);
+}
+
+/* FFh resets: the keyboard acknowledges and reports that it works. Any other
+ * command is acknowledged. */
+static void keyboard_answers(struct board *board, uint8_t command)
+{
+    keyboard_queue(board, 0xFA);
+    if (command == 0xFF)
+        keyboard_queue(board, 0xAA);
+}
+
+static void mouse_answers(struct board *board, uint8_t command)
+{
+    uint16_t frames[CALUGNID_TRACKBALL_FRAMES];
+    size_t count = calugnid_trackball_send(board->trackball, command, frames);
+
+    mouse_queue(board, frames, count);
+}
+
+/* A real mouse reports when it was moved, and not before all that it had to send
+ * is sent: until then it adds the moves up. So the board takes a report then. With
+ * reporting off there are no frames, and the movement stays for a later packet. */
+static void mouse_reports(struct board *board)
+{
+    uint16_t frames[CALUGNID_TRACKBALL_FRAMES];
+    size_t count;
+
+    if (!board->moved || board->mouse.count != 0)
         return;
-    device_queue(device, 0xAA);
-    if (device->kind == CALUGNID_MOUSE_FRAME)
-        device_queue(device, 0x00);
+    count = calugnid_trackball_report(board->trackball, frames);
+    printf("%-9s takes a report of %d frames\n", "board", (int)count);
+    mouse_queue(board, frames, count);
+    board->moved = false;
 }
 
 /* A device takes the byte sent to it. False where nothing is being sent. */
@@ -111,7 +148,10 @@ static bool device_takes(struct board *board)
                                                                          : &board->mouse;
     printf("%-9s takes %02X\n", device->name, byte);
     board_event(board, CALUGNID_BYTE_TAKEN, 0, answer);
-    device_answer(device, byte);
+    if (device == &board->keyboard)
+        keyboard_answers(board, byte);
+    else
+        mouse_answers(board, byte);
     return true;
 }
 
@@ -123,7 +163,8 @@ static void keep_release_back(struct board *board)
 
     if (board->opened_by == 0 || keyboard->count < 2)
         return;
-    if (keyboard->queue[0] != 0xF0 || keyboard->queue[1] != board->opened_by)
+    if (keyboard->queue[0] != calugnid_frame(0xF0) ||
+        keyboard->queue[1] != calugnid_frame(board->opened_by))
         return;
     printf("%-9s keeps the release of %02X back\n", "board", board->opened_by);
     device_drop(keyboard, 2);
@@ -136,19 +177,21 @@ static void device_sends(struct board *board, struct device *device)
 {
     uint8_t answer[CALUGNID_ANSWER_BYTES];
     bool locked = calugnid_locked(board->state);
+    uint16_t frame;
     uint8_t byte;
 
     if (device->count == 0)
         return;
-    byte = device->queue[0];
+    frame = device->queue[0];
+    byte = (uint8_t)calugnid_judge(frame); /* it is sound */
     if (!calugnid_ready(board->state, device->kind)) {
         printf("%-9s holds %02X, refusal %d\n", device->name, byte,
-               calugnid_refusal(board->state, device->kind, calugnid_frame(byte)));
+               calugnid_refusal(board->state, device->kind, frame));
         return;
     }
     printf("%-9s sends %02X\n", device->name, byte);
     device_drop(device, 1);
-    board_event(board, device->kind, calugnid_frame(byte), answer);
+    board_event(board, device->kind, frame, answer);
     if (locked && !calugnid_locked(board->state))
         board->opened_by = byte;
 }
@@ -159,19 +202,36 @@ static void devices_turn(struct board *board)
     if (device_takes(board))
         return;
     keep_release_back(board);
+    mouse_reports(board);
     device_sends(board, &board->keyboard);
     device_sends(board, &board->mouse);
 }
 
 static void press(struct board *board, uint8_t key)
 {
-    device_queue(&board->keyboard, key);
+    keyboard_queue(board, key);
 }
 
 static void release(struct board *board, uint8_t key)
 {
-    device_queue(&board->keyboard, 0xF0);
-    device_queue(&board->keyboard, key);
+    keyboard_queue(board, 0xF0);
+    keyboard_queue(board, key);
+}
+
+/* The buttons have the same bits in a move and in a packet. */
+static void print_movement(const char *who, const char *does, int x, int y, uint8_t buttons)
+{
+    printf("%-9s %s x %d, y %d, buttons %c%c%c\n", who, does, x, y,
+           buttons & CALUGNID_PACKET_LEFT ? 'L' : '-',
+           buttons & CALUGNID_PACKET_RIGHT ? 'R' : '-',
+           buttons & CALUGNID_PACKET_MIDDLE ? 'M' : '-');
+}
+
+static void move(struct board *board, uint8_t buttons, int16_t x, int16_t y)
+{
+    print_movement("user", "moves", x, y, buttons);
+    calugnid_trackball_move(board->trackball, buttons, x, y);
+    board->moved = true;
 }
 
 /* ---- The host's accesses. The devices go on while it polls the status. */
@@ -244,6 +304,33 @@ static void host_expect(struct board *board, uint8_t byte)
         fail("the host read another byte than it expected");
 }
 
+/* A byte for the mouse, which acknowledges it. */
+static void host_send_mouse(struct board *board, uint8_t byte)
+{
+    host_command(board, CALUGNID_CMD_SEND_TO_MOUSE);
+    host_send(board, byte);
+    host_expect(board, 0xFA);
+}
+
+/* Nine bits in two's complement: the sign stands in a packet's first byte. */
+static int movement(uint8_t low, bool negative)
+{
+    return negative ? low - 256 : low;
+}
+
+static void host_packet(struct board *board)
+{
+    uint8_t first = host_read(board);
+    int x = movement(host_read(board), first & CALUGNID_PACKET_X_SIGN);
+    int y = movement(host_read(board), first & CALUGNID_PACKET_Y_SIGN);
+
+    print_movement("host", "decodes", x, y, first);
+    if (first & CALUGNID_PACKET_X_OVERFLOW)
+        printf("%-9s x overflow\n", "host");
+    if (first & CALUGNID_PACKET_Y_OVERFLOW)
+        printf("%-9s y overflow\n", "host");
+}
+
 /* ---- The host's program. */
 
 /* Both devices off, so that no byte of theirs comes among the answers. */
@@ -281,15 +368,13 @@ static void reset_keyboard(struct board *board)
 
 static void start_mouse(struct board *board)
 {
-    printf("-- mouse reset and enabled\n");
-    host_command(board, CALUGNID_CMD_SEND_TO_MOUSE);
-    host_send(board, 0xFF);
-    host_expect(board, 0xFA);
+    printf("-- mouse reset, identified and enabled\n");
+    host_send_mouse(board, CALUGNID_TRACKBALL_RESET);
     host_expect(board, 0xAA);
     host_expect(board, 0x00);
-    host_command(board, CALUGNID_CMD_SEND_TO_MOUSE);
-    host_send(board, 0xF4);
-    host_expect(board, 0xFA);
+    host_send_mouse(board, CALUGNID_TRACKBALL_IDENTIFY);
+    host_expect(board, 0x00);
+    host_send_mouse(board, CALUGNID_TRACKBALL_ENABLE);
 }
 
 /* Key 1Ch of set 2 is 1Eh of set 1; its release is F0h 1Ch, read as 9Eh. */
@@ -300,6 +385,35 @@ static void type_key(struct board *board)
     release(board, 0x1C);
     host_expect(board, 0x1E);
     host_expect(board, 0x9E);
+}
+
+static void move_mouse(struct board *board)
+{
+    printf("-- a move\n");
+    move(board, CALUGNID_PACKET_LEFT, 12, -5);
+    host_packet(board);
+}
+
+/* The second packet has both moves, whose x together is beyond nine bits. */
+static void move_during_packet(struct board *board)
+{
+    printf("-- two moves while a packet is being sent\n");
+    move(board, 0, -200, 30);
+    devices_turn(board);
+    move(board, 0, -150, 3);
+    move(board, CALUGNID_PACKET_RIGHT, -150, 4);
+    host_packet(board);
+    host_packet(board);
+}
+
+/* With reporting off the mouse sends a packet only when it is asked for one. */
+static void ask_for_packet(struct board *board)
+{
+    printf("-- mouse disabled, a packet asked for\n");
+    host_send_mouse(board, CALUGNID_TRACKBALL_DISABLE);
+    move(board, CALUGNID_PACKET_MIDDLE, 3, 4);
+    host_send_mouse(board, CALUGNID_TRACKBALL_READ_PACKET);
+    host_packet(board);
 }
 
 /* The code 1Eh 30h, and the bytes that tell of the lock closed and opened. */
@@ -355,6 +469,9 @@ int main(void)
     reset_keyboard(&board);
     start_mouse(&board);
     type_key(&board);
+    move_mouse(&board);
+    move_during_packet(&board);
+    ask_for_packet(&board);
     load_code(&board);
     close_and_open(&board);
     host_command(&board, CALUGNID_CMD_RESET);

@@ -45,9 +45,9 @@
  *
  * What a caller owes:
  * - Pointers to valid memory of the size named, not null even where a length
- *   is 0. No alignment is needed.
+ *   is 0. Bytes need no alignment; numbers of sixteen bits have that of C.
  * - No two arguments of a call overlap where one of them is written.
- * - One thread at a time for each state.
+ * - One thread at a time for each state and each trackball.
  * - A header and an archive that belong together: calugnid_fits tells.
  * Everything else may be anything: a call that cannot do its work hands back
  * the number of the check that refuses it, and changes nothing.
@@ -91,7 +91,7 @@ extern "C" {
 
 /* The version of this header and of the library that belongs to it. It goes up
  * with each change of a call, a size or a rule. */
-#define CALUGNID_VERSION 1
+#define CALUGNID_VERSION 2
 
 /* On calls whose result can be a refusal: gcc and clang warn where it is not
  * looked at. */
@@ -109,7 +109,9 @@ enum {
     CALUGNID_IMAGE_BYTES = 68,
     CALUGNID_EVENT_BYTES = 3,   /* in a list: kind, value low, value high */
     CALUGNID_ANSWER_BYTES = 9,
-    CALUGNID_LIST_MOST = 21000  /* the longest list */
+    CALUGNID_LIST_MOST = 21000, /* the longest list */
+    CALUGNID_TRACKBALL_BYTES = 6,
+    CALUGNID_TRACKBALL_FRAMES = 4 /* the most that one call hands out */
 };
 
 /* Settings: the bits of `options`. The data sheet, "Start settings", says what
@@ -312,6 +314,30 @@ enum {
     CALUGNID_TO_MOUSE = 2
 };
 
+/* Bytes that a host sends to the trackball: CALUGNID_CMD_SEND_TO_MOUSE, then
+ * one of these to port 60h. Any other gives FEh, and none takes an argument. */
+enum {
+    CALUGNID_TRACKBALL_READ_PACKET = 0xEB, /* gives FAh and a packet */
+    CALUGNID_TRACKBALL_IDENTIFY = 0xF2,    /* gives FAh 00h */
+    CALUGNID_TRACKBALL_ENABLE = 0xF4,      /* reporting on; gives FAh */
+    CALUGNID_TRACKBALL_DISABLE = 0xF5,     /* reporting off; gives FAh */
+    CALUGNID_TRACKBALL_RESET = 0xFF        /* reporting off, sums and overflows
+                                              0, buttons as they were; gives
+                                              FAh AAh 00h */
+};
+
+/* Bits of a packet's first byte. The low bytes of x and of y follow it. */
+enum {
+    CALUGNID_PACKET_LEFT = 0x01,       /* buttons, as the last move had them */
+    CALUGNID_PACKET_RIGHT = 0x02,
+    CALUGNID_PACKET_MIDDLE = 0x04,
+    CALUGNID_PACKET_ONE = 0x08,        /* always 1 */
+    CALUGNID_PACKET_X_SIGN = 0x10,     /* x is negative */
+    CALUGNID_PACKET_Y_SIGN = 0x20,
+    CALUGNID_PACKET_X_OVERFLOW = 0x40, /* x stopped at -256 or 255 */
+    CALUGNID_PACKET_Y_OVERFLOW = 0x80
+};
+
 /* Results of calugnid_judge past the bytes, and bits of calugnid_translate. */
 enum {
     CALUGNID_PARITY_ERROR = 0x100,
@@ -463,6 +489,46 @@ uint16_t calugnid_frame(uint8_t byte);
  * CALUGNID_YIELDS where there is one, CALUGNID_BREAK_FLAG where the break flag
  * is set afterwards. */
 uint16_t calugnid_translate(uint8_t byte, bool break_flag);
+
+/* ---- A trackball that a board keeps: `trackball` is 6 bytes, `frames` is 4
+ * numbers. It is a PS/2 mouse that stands apart from every controller: the
+ * board hands it the bytes that its host sends to the mouse, and feeds the
+ * controller its frames.
+ *
+ * A trackball keeps the movement since the last packet as two sums, x and y,
+ * from -256 to 255, each with an overflow, three buttons, and whether it
+ * reports. Its bytes are: 0 the buttons in bits 0-2; 1 reporting in bit 0, the
+ * overflow of x in bit 1 and of y in bit 2; 2 and 3 the sum x, 4 and 5 the sum
+ * y, sixteen bits in two's complement, low byte first. The other bits of bytes
+ * 0 and 1 stand for nothing: they are not read, and each call leaves them 0.
+ * Any six bytes are a trackball: of a sum beyond its ends a packet has the sign
+ * and the low byte, and the next move brings it within them.
+ *
+ * A call that hands out frames writes them, in order, to the first places of
+ * `frames` and returns how many they are; the places past them stay. Each is
+ * the sound frame of a byte. Deliver them one by one as CALUGNID_MOUSE_FRAME,
+ * each when calugnid_ready says that it would be taken, and in order: the
+ * trackball keeps no copy. What a caller owes is what it owes a state. */
+
+/* Makes a trackball after power-on: reporting off, sums 0, no button down. */
+void calugnid_trackball_start(uint8_t *trackball);
+
+/* Sets the buttons from bits 0-2 (CALUGNID_PACKET_LEFT and so on) and adds the
+ * steps, reporting or not. A sum that would be below -256 or above 255 stops at
+ * that end and sets its overflow, which stays until a packet or a reset; -256
+ * and 255 themselves set none. */
+void calugnid_trackball_move(uint8_t *trackball, uint8_t buttons,
+                             int16_t x, int16_t y);
+
+/* A byte that the host sent to it: the frames of its reply, 1 to 4 of them.
+ * After a packet sums and overflows are 0. */
+size_t calugnid_trackball_send(uint8_t *trackball, uint8_t byte,
+                               uint16_t *frames);
+
+/* What it reports: while reporting is on one packet, 3 frames, after which sums
+ * and overflows are 0; while it is off none, and sums and overflows stay. It
+ * reports whether anything is new or not: when to ask is the board's to say. */
+size_t calugnid_trackball_report(uint8_t *trackball, uint16_t *frames);
 
 /* ---- Names, for messages. */
 

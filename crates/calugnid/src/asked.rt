@@ -59,7 +59,7 @@ pub extern "C" fn calugnid_version_byte(state: &State) -> u8
 pub extern "C" fn calugnid_library_version() -> u32
     ensures { λ r. ⌜ r ≡ libraryVersion ⌝ }
 {
-    1
+    2
 }
 
 // How many bytes a state has.

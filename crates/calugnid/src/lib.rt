@@ -3,4 +3,5 @@ pub mod asked;
 pub mod lists;
 pub mod live;
 pub mod tables;
+pub mod trackballs;
 pub mod wire;

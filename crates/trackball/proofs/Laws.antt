@@ -1,6 +1,6 @@
+-- Laws of the definitions, in files of the same names.
 pub mod Counters
-pub mod Stored
+pub mod Trackball
 pub mod Packets
 pub mod Commands
-pub mod Trackball
 pub mod Worked

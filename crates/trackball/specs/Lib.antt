@@ -3,5 +3,4 @@ pub mod Trackball
 pub mod Packets
 pub mod Commands
 pub mod View
-pub mod Promises
 pub mod Worked

@@ -1,41 +1,24 @@
--- The trackball that the program's struct and the six bytes stand for.
-use Prim.Native.Nat.{ℕ, _-_, _/_, _%_}
-use mathlib.Core.Bool.{false, cond}
+-- The trackball, and the bytes handed out, that the program's types stand for.
+use Prim.Native.Nat.{ℕ, _%_}
 use mathlib.Core.List.{List, [], _∷_}
-use lib.IntN.{ℤ, pos, negsuc}
-use lib.ListN.{getD}
-use lib.Dec.{ltb}
-use Rattle.translation.specs.Bits.{has, nibble, word}
 use Rattle.trackball.specs.declared.counters.Axis.{Axis}
 use Rattle.trackball.specs.declared.trackball.Trackball.{Trackball}
-use Rattle.trackball.specs.Counters.{Counter, complement}
+use Rattle.trackball.specs.declared.packets.Bytes.{Bytes}
+use Rattle.trackball.specs.declared.packets.Bytes.the-variants as variant
+use Rattle.trackball.specs.Counters.{Counter}
 use Rattle.trackball.specs.Trackball.{Mouse}
 
--- The program's structs. Of the byte of buttons only the bits 0-2 stand for something.
+-- Of the byte of buttons only the bits 0-2 stand for something.
 abbrev pub counter : Axis → Counter
 counter a = record { sum = a .sum; overflow = a .overflow }
 
 abbrev pub view : Trackball → Mouse
 view t = record { x = counter (t .x); y = counter (t .y); buttons = t .buttons % 8; reporting = t .reporting }
 
--- The six bytes that a board keeps: buttons in bits 0-2; reporting, the overflow of x and that of y in bits 0-2; then the sums, low byte first.
--- Other bits are 0.
-unfoldable pub bytesOf : Mouse → List ℕ
-bytesOf m =
-    m .buttons ∷ nibble (m .reporting) (m .x .overflow) (m .y .overflow) false ∷
-    complement (m .x .sum) % 256 ∷ complement (m .x .sum) / 256 ∷
-    complement (m .y .sum) % 256 ∷ complement (m .y .sum) / 256 ∷ []
-
--- The number that sixteen bits in two's complement stand for.
-unfoldable pub signed : ℕ → ℤ
-signed n = cond (ltb n 32768) (pos n) (negsuc (65535 - n))
-
--- Read back. Bits that stand for nothing are not looked at.
-unfoldable pub mouseOf : List ℕ → Mouse
-mouseOf s =
-    record {
-      x = record { sum = signed (word (getD s 2 0) (getD s 3 0)); overflow = has (getD s 1 0) 1 };
-      y = record { sum = signed (word (getD s 4 0) (getD s 5 0)); overflow = has (getD s 1 0) 2 };
-      buttons = getD s 0 0 % 8;
-      reporting = has (getD s 1 0) 0;
-    }
+-- No bytes, or one to four of them.
+abbrev pub bytesIn : Bytes → List ℕ
+bytesIn variant.Nothing = []
+bytesIn (variant.One a) = a ∷ []
+bytesIn (variant.Two a b) = a ∷ b ∷ []
+bytesIn (variant.Three a b c) = a ∷ b ∷ c ∷ []
+bytesIn (variant.Four a b c d) = a ∷ b ∷ c ∷ d ∷ []

@@ -10,13 +10,13 @@ pub struct Axis {
 }
 
 // Nine bits: a sign bit and a low byte.
-pub struct Nine {
+pub(crate) struct Nine {
     pub negative: bool,
     pub low: u8,
 }
 
 // No movement.
-pub fn still() -> Axis
+pub(crate) fn still() -> Axis
     ensures { λ r. ⌜ counter r ≡ counters.still ⌝ }
 {
     Axis {
@@ -26,7 +26,7 @@ pub fn still() -> Axis
 }
 
 // A step added. It is done in thirty-two bits, which every sum of two numbers of sixteen fits.
-pub fn stepped(a: Axis, step: i16) -> Axis
+pub(crate) fn stepped(a: Axis, step: i16) -> Axis
     ensures { λ r. ⌜ counter r ≡ counters.stepped step (counter a) ⌝ }
 {
     let sum = a.sum;
@@ -59,7 +59,7 @@ pub fn complement(sum: i16) -> u16
     (n % 65536) as u16
 }
 
-pub fn split(sum: i16) -> Nine
+pub(crate) fn split(sum: i16) -> Nine
     ensures { λ r. ⌜ (r .negative ≡ counters.negative sum) × (r .low ≡ counters.lowByte sum) ⌝ }
 {
     let negative = sum < 0;

@@ -1,7 +1,5 @@
-// A trackball: a PS/2 mouse on the wire, apart from the controller.
-pub mod calls;
+// A trackball: a PS/2 mouse, apart from the controller. It goes in by value and comes back.
 pub mod commands;
 pub mod counters;
 pub mod packets;
-pub mod stored;
 pub mod trackball;

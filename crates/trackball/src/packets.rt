@@ -7,21 +7,28 @@ ghost use mathlib.Core.List.{[], _∷_};
 ghost use Prim.Native.Nat.{_+_, _*_, _%_};
 ghost use Rattle.translation.specs.Bits.{nibble};
 ghost use Rattle.trackball.specs.Packets as packets;
-ghost use Rattle.trackball.specs.View.{view};
-ghost use Rattle.trackball.specs.Promises.{Replied};
+ghost use Rattle.trackball.specs.View.{view, bytesIn};
 
 // The three bytes of a packet.
-pub struct Packet {
+pub(crate) struct Packet {
     pub head: u8,
     pub x: u8,
     pub y: u8,
 }
 
-// The bytes to be handed out, as many as the count, and the trackball afterwards.
+// The bytes that a call hands out: four at most.
+pub enum Bytes {
+    Nothing,
+    One(u8),
+    Two(u8, u8),
+    Three(u8, u8, u8),
+    Four(u8, u8, u8, u8),
+}
+
+// The trackball after a call, and the bytes that it hands out.
 pub struct Reply {
     pub trackball: Trackball,
-    pub count: usize,
-    pub bytes: [u8; 4],
+    pub bytes: Bytes,
 }
 
 // Buttons in bits 0-2, bit 3 one, the signs in 4 and 5, the overflows in 6 and 7.
@@ -37,7 +44,7 @@ fn head(buttons: u8, xsign: bool, ysign: bool, xover: bool, yover: bool) -> u8
 }
 
 // The low bytes follow the first, x before y.
-pub fn packet_of(t: Trackball) -> Packet
+pub(crate) fn packet_of(t: Trackball) -> Packet
     ensures { λ r. ⌜ (r .head ∷ r .x ∷ r .y ∷ []) ≡ packets.packet (view t) ⌝ }
 {
     let along_x = t.x;
@@ -59,20 +66,18 @@ pub fn packet_of(t: Trackball) -> Packet
 
 // While reporting is enabled a packet, after which there is no movement; else nothing, and the sums stay.
 pub fn report(t: Trackball) -> Reply
-    ensures { λ r. ⌜ Replied (packets.reportBytes (view t)) (packets.reported (view t)) (view (r .trackball)) (r .count) (r .bytes) ⌝ }
+    ensures { λ r. ⌜ (view (r .trackball) ≡ packets.reported (view t)) × (bytesIn (r .bytes) ≡ packets.reportBytes (view t)) ⌝ }
 {
     if t.reporting {
         let p = packet_of(t);
         Reply {
             trackball: without_movement(t),
-            count: 3,
-            bytes: [p.head, p.x, p.y, 0],
+            bytes: Bytes::Three(p.head, p.x, p.y),
         }
     } else {
         Reply {
             trackball: t,
-            count: 0,
-            bytes: [0, 0, 0, 0],
+            bytes: Bytes::Nothing,
         }
     }
 }

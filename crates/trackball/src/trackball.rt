@@ -40,7 +40,7 @@ pub fn moved(t: Trackball, buttons: u8, x: i16, y: i16) -> Trackball
     }
 }
 
-pub fn with_reporting(t: Trackball, reporting: bool) -> Trackball
+pub(crate) fn with_reporting(t: Trackball, reporting: bool) -> Trackball
     ensures { λ r. ⌜ view r ≡ ball.withReporting reporting (view t) ⌝ }
 {
     let along_x = t.x;
@@ -54,7 +54,7 @@ pub fn with_reporting(t: Trackball, reporting: bool) -> Trackball
 }
 
 // No movement; the buttons stay.
-pub fn without_movement(t: Trackball) -> Trackball
+pub(crate) fn without_movement(t: Trackball) -> Trackball
     ensures { λ r. ⌜ view r ≡ ball.withoutMovement (view t) ⌝ }
 {
     Trackball {

@@ -3,11 +3,13 @@
 //! `bench CASE` prints the number of events run by each of the two, for a
 //! profiler around it to divide by. `bench events` does so with one call an
 //! event, and `bench dearest` with one event on copies of one state; `bench judge`, `bench judge-all` and `bench frame` print the number
-//! of calls to judge a frame or to frame a byte. `bench stack WHO` makes a
-//! single run. Runs are under the ordinary settings.
+//! of calls to judge a frame or to frame a byte, and `bench trackball` the number
+//! of moves with their reports. `bench stack WHO` makes a single run. Runs are
+//! under the ordinary settings.
 
 mod cases;
 mod measured;
+mod trackball;
 
 use calugnid::State;
 use cases::Case;
@@ -118,6 +120,7 @@ fn main() -> ExitCode {
         ["judge"] => profile_judging(&(0..=u8::MAX).map(model::frame).collect::<Vec<_>>()),
         ["judge-all"] => profile_judging(&(0..FRAMES).collect::<Vec<_>>()),
         ["frame"] => profile_framing(),
+        ["trackball"] => trackball::profile(),
         [name] => match cases::by_name(name) {
             Some(case) => profile(&case),
             None => return ExitCode::FAILURE,

@@ -5,7 +5,7 @@
 //! framing in the library are looked for by their C names, so only the model
 //! has functions for them here.
 
-use calugnid::{Answer, State};
+use calugnid::{Answer, Frames, State};
 use model::{Controller, Settings, Verdict};
 use std::hint::black_box;
 
@@ -51,4 +51,27 @@ pub fn measured_model_judge(frame: u16) -> u16 {
 #[unsafe(no_mangle)]
 pub fn measured_model_frame(byte: u8) -> u16 {
     model::frame(byte)
+}
+
+/// A move and its report.
+#[inline(never)]
+#[unsafe(no_mangle)]
+pub fn measured_library_trackball(
+    trackball: &mut calugnid::Trackball,
+    (buttons, x, y): (u8, i16, i16),
+    frames: &mut Frames,
+) -> usize {
+    trackball.move_by(buttons, x, y);
+    black_box(trackball.report(frames))
+}
+
+#[inline(never)]
+#[unsafe(no_mangle)]
+pub fn measured_model_trackball(
+    trackball: &mut model::Trackball,
+    (buttons, x, y): (u8, i16, i16),
+    frames: &mut Frames,
+) -> usize {
+    trackball.move_by(buttons, x, y);
+    black_box(trackball.report().write_frames(frames))
 }

@@ -72,4 +72,9 @@ unsafe extern "C" {
     pub fn calugnid_judge(frame: u16) -> u16;
     pub fn calugnid_frame(byte: u8) -> u16;
     pub fn calugnid_translate(byte: u8, break_flag: bool) -> u16;
+
+    pub fn calugnid_trackball_start(trackball: *mut u8);
+    pub fn calugnid_trackball_move(trackball: *mut u8, buttons: u8, x: i16, y: i16);
+    pub fn calugnid_trackball_send(trackball: *mut u8, byte: u8, frames: *mut u16) -> usize;
+    pub fn calugnid_trackball_report(trackball: *mut u8, frames: *mut u16) -> usize;
 }

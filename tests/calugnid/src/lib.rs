@@ -2,8 +2,10 @@
 
 mod ffi;
 mod state;
+mod trackball;
 
 pub use state::{ANSWER_SIZE, Answer, STATE_SIZE, State};
+pub use trackball::{FRAMES, Frames, TRACKBALL_SIZE, Trackball};
 
 /// Options of a start: none of them, the mouse lock, AT mode, and the second
 /// command set.

@@ -37,6 +37,7 @@ pub mod second_set_scenes;
 pub mod situations;
 pub mod starts;
 pub mod tally;
+pub mod trackball;
 pub mod typist;
 pub mod under_settings;
 pub mod unguided;

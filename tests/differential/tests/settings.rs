@@ -45,7 +45,7 @@ fn only_three_bits_of_the_options_start_anything() {
 
 #[test]
 fn the_library_tells_its_version_and_the_size_of_a_state() {
-    assert_eq!(calugnid::library_version(), 1);
+    assert_eq!(calugnid::library_version(), 2);
     assert_eq!(calugnid::state_bytes(), calugnid::STATE_SIZE);
 }
 

@@ -1,6 +1,6 @@
 //! A plain model of the 8042 keyboard controller in PS/2 mode and in AT mode,
 //! with the first command set and with that of the VT82C42, and with the built-in
-//! key table or another.
+//! key table or another; and of a trackball to test it with.
 //!
 //! It follows the written rules and nothing else, and serves as the yardstick
 //! for the library under test.
@@ -23,15 +23,19 @@ mod latches;
 mod lines;
 mod list;
 mod lock;
+mod movement;
 mod own_table;
 mod password;
 mod receive;
 mod refusal;
+mod reply;
 mod second_set;
 mod settings;
 mod state_bytes;
 mod state_rules;
 mod stored_run;
+mod trackball;
+mod trackball_bytes;
 mod translation;
 
 pub use body::{BODY_SIZE, encode};
@@ -43,10 +47,14 @@ pub use image::{IMAGE_SIZE, find, load, save, store, word_sum};
 pub use key_table::{KeyTable, TABLE_SIZE};
 pub use key_table_rules::table_refusal;
 pub use list::{ANSWER_SIZE, EVENT_SIZE, LIST_LIMIT, list_refusal, run};
+pub use movement::Movement;
 pub use own_table::run_with_table;
 pub use password::{PASSWORD_LIMIT, Password};
+pub use reply::{REPLY_LIMIT, Reply};
 pub use settings::Settings;
 pub use state_bytes::{STATE_SIZE, TABLE_PLACE, state_bytes};
 pub use state_rules::keeps_state_rules;
 pub use stored_run::run_image;
+pub use trackball::Trackball;
+pub use trackball_bytes::TRACKBALL_SIZE;
 pub use translation::translate;

@@ -1,75 +1,86 @@
--- A reply inside the program, case by case: what a byte gives and what it does, and a report. Assumes nothing.
-use Prim.Native.Nat.{ℕ, _≤_}
-use mathlib.Core.Path.{_≡_, refl, sym, ap, ap₂, _∙_}
-use mathlib.Core.Bool.{Bool, true, false, cond}
+-- The cases of a byte that was sent and of a report, and that what is given are bytes. Assumes nothing.
+use Prim.Native.Nat.{ℕ, zero, suc, _≤_, _<_}
+use mathlib.Core.Path.{_≡_, refl, sym, ap, subst, _∙_}
+use mathlib.Core.Bool.{Bool, true, false, cond, _||_}
 use mathlib.Core.List.{List, [], _∷_}
 use native.Mathlib.Omega.{arith}
 use borrow.Author.Tests.{ne-eqb}
-use lib.ListN.{length, take}
+use lib.Dec.{eqb}
+use Rattle.translation.proofs.Lists.{Below}
+use Rattle.translation.proofs.Tests.{split}
 use Rattle.trackball.specs.Trackball.{Mouse, withReporting, withoutMovement}
 use Rattle.trackball.specs.Packets.{packet, reportBytes, reported}
 use Rattle.trackball.specs.Commands.{replyBytes, received}
-use Rattle.trackball.specs.View.{bytesOf}
-use Rattle.trackball.specs.Promises.{Replied, framed, HandedOut}
+use Rattle.trackball.proofs.Laws.Packets.{packet-below}
 
-module _ {b : ℕ} (m : Mouse) {next : Mouse} where
-  pub replied-EB : {h x y : ℕ} → b ≡ 0xEB → next ≡ withoutMovement m → (h ∷ x ∷ y ∷ []) ≡ packet m →
-      Replied (replyBytes b m) (received b m) next 4 (0xFA ∷ h ∷ x ∷ y ∷ [])
-  unfolding replyBytes received
-  replied-EB byte after made = rw byte (record { state = after; fits = omega arith; front = ap (λ (l : List ℕ). 0xFA ∷ l) made })
-
-  pub replied-F4 : b ≡ 0xF4 → next ≡ withReporting true m → Replied (replyBytes b m) (received b m) next 1 (0xFA ∷ 0 ∷ 0 ∷ 0 ∷ [])
-  unfolding replyBytes received
-  replied-F4 byte after = rw byte (record { state = after; fits = omega arith; front = refl })
-
-  pub replied-F5 : b ≡ 0xF5 → next ≡ withReporting false m → Replied (replyBytes b m) (received b m) next 1 (0xFA ∷ 0 ∷ 0 ∷ 0 ∷ [])
-  unfolding replyBytes received
-  replied-F5 byte after = rw byte (record { state = after; fits = omega arith; front = refl })
-
-  pub replied-FF : b ≡ 0xFF → next ≡ withoutMovement (withReporting false m) → Replied (replyBytes b m) (received b m) next 3 (0xFA ∷ 0xAA ∷ 0x00 ∷ 0 ∷ [])
-  unfolding replyBytes received
-  replied-FF byte after = rw byte (record { state = after; fits = omega arith; front = refl })
+-- ---- a byte that was sent: what it does and what it gives
+abbrev Replied : ℕ → Mouse → Mouse → List ℕ → Type 0
+Replied b m next bytes = (next ≡ received b m) × (bytes ≡ replyBytes b m)
 
 module _ {b : ℕ} (m : Mouse) where
-  pub replied-F2 : b ≡ 0xF2 → Replied (replyBytes b m) (received b m) m 2 (0xFA ∷ 0x00 ∷ 0 ∷ 0 ∷ [])
+  pub replied-EB : {next : Mouse} {h x y : ℕ} → b ≡ 0xEB → next ≡ withoutMovement m → (h ∷ x ∷ y ∷ []) ≡ packet m → Replied b m next (0xFA ∷ h ∷ x ∷ y ∷ [])
   unfolding replyBytes received
-  replied-F2 byte = rw byte (record { state = refl; fits = omega arith; front = refl })
+  replied-EB byte after made = rw byte (after, ap (λ (l : List ℕ). 0xFA ∷ l) made)
+
+  pub replied-F2 : b ≡ 0xF2 → Replied b m m (0xFA ∷ 0x00 ∷ [])
+  unfolding replyBytes received
+  replied-F2 byte = rw byte (refl, refl)
+
+  pub replied-F4 : {next : Mouse} → b ≡ 0xF4 → next ≡ withReporting true m → Replied b m next (0xFA ∷ [])
+  unfolding replyBytes received
+  replied-F4 byte after = rw byte (after, refl)
+
+  pub replied-F5 : {next : Mouse} → b ≡ 0xF5 → next ≡ withReporting false m → Replied b m next (0xFA ∷ [])
+  unfolding replyBytes received
+  replied-F5 byte after = rw byte (after, refl)
+
+  pub replied-FF : {next : Mouse} → b ≡ 0xFF → next ≡ withoutMovement (withReporting false m) → Replied b m next (0xFA ∷ 0xAA ∷ 0x00 ∷ [])
+  unfolding replyBytes received
+  replied-FF byte after = rw byte (after, refl)
 
   -- every other byte
-  pub replied-other : (b ≡ 0xEB → ⊥) → (b ≡ 0xF2 → ⊥) → (b ≡ 0xF4 → ⊥) → (b ≡ 0xF5 → ⊥) → (b ≡ 0xFF → ⊥) →
-      Replied (replyBytes b m) (received b m) m 1 (0xFE ∷ 0 ∷ 0 ∷ 0 ∷ [])
+  pub replied-other : (b ≡ 0xEB → ⊥) → (b ≡ 0xF2 → ⊥) → (b ≡ 0xF4 → ⊥) → (b ≡ 0xF5 → ⊥) → (b ≡ 0xFF → ⊥) → Replied b m m (0xFE ∷ [])
   unfolding replyBytes received
   replied-other eb f2 f4 f5 ff =
-      simp (ne-eqb _ _ eb, ne-eqb _ _ f2, ne-eqb _ _ f4, ne-eqb _ _ f5, ne-eqb _ _ ff) (record { state = refl; fits = omega arith; front = refl })
+      simp (ne-eqb _ _ eb, ne-eqb _ _ f2, ne-eqb _ _ f4, ne-eqb _ _ f5, ne-eqb _ _ ff) (refl, refl)
 
 -- ---- a report
-pub reported-on : (m : Mouse) {next : Mouse} {h x y : ℕ} → m .reporting ≡ true → next ≡ withoutMovement m → (h ∷ x ∷ y ∷ []) ≡ packet m →
-    Replied (reportBytes m) (reported m) next 3 (h ∷ x ∷ y ∷ 0 ∷ [])
-unfolding reportBytes reported
-reported-on m on after made =
-    record {
-      state = after ∙ sym (ap (λ (r : Bool). cond r (withoutMovement m) m) on);
-      fits = omega arith;
-      front = made ∙ sym (ap (λ (r : Bool). cond r (packet m) []) on);
-    }
+abbrev Reported : Mouse → Mouse → List ℕ → Type 0
+Reported m next bytes = (next ≡ reported m) × (bytes ≡ reportBytes m)
 
-pub reported-off : (m : Mouse) {array : List ℕ} → m .reporting ≡ false → Replied (reportBytes m) (reported m) m 0 array
-unfolding reportBytes reported
-reported-off m off =
-    record {
-      state = sym (ap (λ (r : Bool). cond r (withoutMovement m) m) off);
-      fits = omega arith;
-      front = sym (ap (λ (r : Bool). cond r (packet m) []) off);
-    }
+module _ (m : Mouse) where
+  -- what the definitions choose by whether it reports
+  chosen : (r : Bool) → m .reporting ≡ r → (reported m ≡ cond r (withoutMovement m) m) × (reportBytes m ≡ cond r (packet m) [])
+  unfolding reported reportBytes
+  chosen r e = (ap (λ (r : Bool). cond r (withoutMovement m) m) e, ap (λ (r : Bool). cond r (packet m) []) e)
 
--- ---- what is handed out
+  pub reported-on : {next : Mouse} {h x y : ℕ} → m .reporting ≡ true → next ≡ withoutMovement m → (h ∷ x ∷ y ∷ []) ≡ packet m → Reported m next (h ∷ x ∷ y ∷ [])
+  reported-on on after made = (after ∙ sym (chosen true on .0), made ∙ sym (chosen true on .1))
 
--- a reply laid out as frames, and its trackball as bytes
-pub laid : {bytes array places state places′ : List ℕ} {m next : Mouse} {k n : ℕ} → Replied bytes m next k array →
-    HandedOut (take k array) next places state places′ n → HandedOut bytes m places state places′ n
-laid {bytes} {array} {places} r h =
-    record {
-      state = h .state ∙ ap bytesOf (r .state);
-      count = h .count ∙ ap length (r .front);
-      frames = h .frames ∙ ap (λ (l : List ℕ). framed l places) (r .front);
-    }
+  pub reported-off : m .reporting ≡ false → Reported m m []
+  reported-off off = (sym (chosen false off .0), sym (chosen false off .1))
+
+-- ---- bytes
+below-cons : (b : ℕ) (l : List ℕ) → b < 256 → Below 256 l → Below 256 (b ∷ l)
+below-cons b l first rest zero = first
+below-cons b l first rest (suc k) = rest k
+
+below-nil : Below 256 []
+below-nil k = omega arith
+
+pub reportBytes-below : (m : Mouse) → m .buttons < 8 → Below 256 (reportBytes m)
+reportBytes-below m three =
+    split (m .reporting) (λ on. subst (Below 256) (sym (chosen m true on .1)) (packet-below m three))
+    (λ off. subst (Below 256) (sym (chosen m false off .1)) below-nil)
+
+pub replyBytes-below : (b : ℕ) (m : Mouse) → m .buttons < 8 → Below 256 (replyBytes b m)
+unfolding replyBytes
+replyBytes-below b m three =
+    split (eqb b 0xEB) (λ h. simp h (below-cons 0xFA (packet m) (omega arith) (packet-below m three))) λ eb.
+    split (eqb b 0xF2) (λ h. simp (eb, h) (below-cons 0xFA (0x00 ∷ []) (omega arith) (below-cons 0x00 [] (omega arith) below-nil))) λ f2.
+    split (eqb b 0xF4 || eqb b 0xF5) (λ h. simp (eb, f2, h) (below-cons 0xFA [] (omega arith) below-nil)) λ f4.
+    split (eqb b 0xFF)
+    (λ h.
+    simp (eb, f2, f4, h)
+    (below-cons 0xFA (0xAA ∷ 0x00 ∷ []) (omega arith) (below-cons 0xAA (0x00 ∷ []) (omega arith) (below-cons 0x00 [] (omega arith) below-nil))))
+    (λ h. simp (eb, f2, f4, h) (below-cons 0xFE [] (omega arith) below-nil))

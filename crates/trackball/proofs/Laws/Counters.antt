@@ -45,6 +45,10 @@ widened z = toZ w32 (ofZ w32 (read z))
 pub read-fits : {z : ℤ} → SFits w16 z → SFits w32 (read z)
 read-fits {z} p = subst (SFits w32) (sym (toZ-ofZ w16 z p)) (wider p)
 
+-- so a call that is given two such numbers does what it does for the numbers themselves
+pub given-read : {A : Type 0} (f : ℤ → ℤ → A) {x y : ℤ} → SFits w16 x → SFits w16 y → f (read x) (read y) ≡ f x y
+given-read f {x} {y} p q = ap₂ f (toZ-ofZ w16 x p) (toZ-ofZ w16 y q)
+
 widened-is : (z : ℤ) → SFits w16 z → widened z ≡ z
 widened-is z p = ap (λ (y : ℤ). toZ w32 (ofZ w32 y)) (toZ-ofZ w16 z p) ∙ toZ-ofZ w32 z (wider p)
 
