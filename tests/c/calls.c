@@ -1,5 +1,5 @@
-/* Calls each function of include/calugnid.h from C, or from C++, and checks
- * what it hands back and writes. */
+/* Calls the functions of include/calugnid.h that take no key table and no
+ * trackball from C, or from C++, and checks what they hand back and write. */
 #include "checks.h"
 
 /* The frame of 14h, the same with the other parity, one without a stop bit, and

@@ -1,10 +1,10 @@
 -- `trackball::commands::reply` meets its contract: an arm for each case of the definition.
 -- Assumes nothing.
+use borrow.Author.Needs.{needs}
 use mathlib.Core.Path.{ap, _∙_}
 use Rattle.trackball.specs.Trackball.{withoutMovement}
 use Rattle.trackball.specs.View.{view}
 use Rattle.trackball.proofs.Laws.Commands.{replied-EB, replied-F2, replied-F4, replied-F5, replied-FF, replied-other}
-use borrow.Author.Needs.{needs}
 use Rattle.trackball.proofs.commands.reply.Statement.{statement}
 use Rattle.trackball.proofs.commands.reply.Tie as tie
 

@@ -1,8 +1,8 @@
 -- `trackball::packets::head` meets its contract. Each Bool counts 0 or 1, so the sum fits a byte and has the weights of the nibble, times 16.
 -- Assumes nothing.
+use borrow.Author.Needs.{needs}
 use native.Mathlib.Omega.{arith}
 use Rattle.trackball.proofs.Laws.Packets.{one-most, nibble-ones}
-use borrow.Author.Needs.{needs}
 use Rattle.trackball.proofs.packets.head.Statement.{statement}
 use Rattle.trackball.proofs.packets.head.Tie as tie
 

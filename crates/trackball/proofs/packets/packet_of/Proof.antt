@@ -1,8 +1,8 @@
 -- `trackball::packets::packet_of` meets its contract.
 -- Assumes nothing.
+use borrow.Author.Needs.{needs}
 use Rattle.trackball.specs.View.{view}
 use Rattle.trackball.proofs.Laws.Packets.{packet-made}
-use borrow.Author.Needs.{needs}
 use Rattle.trackball.proofs.packets.packet_of.Statement.{statement}
 use Rattle.trackball.proofs.packets.packet_of.Tie as tie
 

@@ -1,8 +1,8 @@
 -- `trackball::packets::report` meets its contract: the cases of the definition.
 -- Assumes nothing.
+use borrow.Author.Needs.{needs}
 use Rattle.trackball.specs.View.{view}
 use Rattle.trackball.proofs.Laws.Commands.{reported-on, reported-off}
-use borrow.Author.Needs.{needs}
 use Rattle.trackball.proofs.packets.report.Statement.{statement}
 use Rattle.trackball.proofs.packets.report.Tie as tie
 

@@ -1,5 +1,6 @@
 -- `trackball::trackball::moved` meets its contract: each sum takes its step.
 -- Assumes nothing.
+use borrow.Author.Needs.{needs}
 use Prim.Native.Nat.{_%_}
 use mathlib.Core.Path.{ap, ap₂, _∙_}
 use lib.IntN.{ℤ}
@@ -8,7 +9,6 @@ use mir.ValLaws.{toZ-ofZ}
 use Rattle.trackball.specs.Counters.{Counter, stepped}
 use Rattle.trackball.specs.Trackball.{moved}
 use Rattle.trackball.specs.View.{counter}
-use borrow.Author.Needs.{needs}
 use Rattle.trackball.proofs.trackball.moved.Statement.{statement}
 use Rattle.trackball.proofs.trackball.moved.Tie as tie
 

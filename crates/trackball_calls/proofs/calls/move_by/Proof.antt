@@ -1,12 +1,12 @@
 -- `trackball_calls::calls::move_by` meets its contract: the bytes are read, moved and stored.
 -- Assumes nothing.
+use borrow.Author.Needs.{needs}
 use mathlib.Core.Path.{ap, _∙_}
 use lib.IntN.{ℤ}
 use Rattle.trackball.specs.Trackball.{moved}
 use Rattle.trackball.specs.View.{view}
 use Rattle.trackball_calls.specs.Stored.{bytesOf}
 use Rattle.trackball.proofs.Laws.Counters.{given-read}
-use borrow.Author.Needs.{needs}
 use Rattle.trackball_calls.proofs.calls.move_by.Statement.{statement}
 use Rattle.trackball_calls.proofs.calls.move_by.Tie as tie
 

@@ -1,7 +1,7 @@
 -- `trackball_calls::calls::report` meets its contract: the report of the trackball that the bytes stand for is handed out.
 -- Assumes nothing.
-use Rattle.trackball_calls.proofs.Laws.Promises.{handed-out}
 use borrow.Author.Needs.{needs}
+use Rattle.trackball_calls.proofs.Laws.Promises.{handed-out}
 use Rattle.trackball_calls.proofs.calls.report.Statement.{statement}
 use Rattle.trackball_calls.proofs.calls.report.Tie as tie
 

@@ -1,7 +1,7 @@
 -- `trackball_calls::calls::send` meets its contract: the reply of the trackball that the bytes stand for is handed out.
 -- Assumes nothing.
-use Rattle.trackball_calls.proofs.Laws.Promises.{handed-out}
 use borrow.Author.Needs.{needs}
+use Rattle.trackball_calls.proofs.Laws.Promises.{handed-out}
 use Rattle.trackball_calls.proofs.calls.send.Statement.{statement}
 use Rattle.trackball_calls.proofs.calls.send.Tie as tie
 

@@ -1,8 +1,8 @@
 -- `trackball_calls::calls::start` meets its contract.
 -- Assumes nothing.
+use borrow.Author.Needs.{needs}
 use mathlib.Core.Path.{ap, _∙_}
 use Rattle.trackball_calls.specs.Stored.{bytesOf}
-use borrow.Author.Needs.{needs}
 use Rattle.trackball_calls.proofs.calls.start.Statement.{statement}
 use Rattle.trackball_calls.proofs.calls.start.Tie as tie
 

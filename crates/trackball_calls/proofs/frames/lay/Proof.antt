@@ -1,11 +1,11 @@
 -- `trackball_calls::frames::lay` meets its contract: a store for each byte, from the first place on.
 -- Assumes nothing.
+use borrow.Author.Needs.{needs}
 use mathlib.Core.Path.{refl}
 use mathlib.Core.List.{[], _∷_}
 use native.Mathlib.Omega.{arith}
 use denote.Ref.{now}
 use Rattle.trackball_calls.proofs.Laws.Promises.{sets-framed}
-use borrow.Author.Needs.{needs}
 use Rattle.trackball_calls.proofs.frames.lay.Statement.{statement}
 use Rattle.trackball_calls.proofs.frames.lay.Tie as tie
 

@@ -1,8 +1,8 @@
 -- `trackball_calls::stored::bytes_of` meets its contract.
 -- Assumes nothing.
+use borrow.Author.Needs.{needs}
 use Rattle.trackball.specs.View.{view}
 use Rattle.trackball_calls.proofs.Laws.Stored.{bytesOf-made}
-use borrow.Author.Needs.{needs}
 use Rattle.trackball_calls.proofs.stored.bytes_of.Statement.{statement}
 use Rattle.trackball_calls.proofs.stored.bytes_of.Tie as tie
 

@@ -1,9 +1,9 @@
 -- `trackball_calls::stored::flags` meets its contract. Each Bool counts 0 or 1.
 -- Assumes nothing.
+use borrow.Author.Needs.{needs}
 use mathlib.Core.Bool.{false}
 use native.Mathlib.Omega.{arith}
 use Rattle.trackball.proofs.Laws.Packets.{one-most, nibble-ones}
-use borrow.Author.Needs.{needs}
 use Rattle.trackball_calls.proofs.stored.flags.Statement.{statement}
 use Rattle.trackball_calls.proofs.stored.flags.Tie as tie
 

@@ -1,8 +1,8 @@
 -- `trackball_calls::stored::read` meets its contract.
 -- Assumes nothing.
+use borrow.Author.Needs.{needs}
 use denote.Ref.{now}
 use Rattle.trackball_calls.proofs.Laws.Stored.{mouseOf-made}
-use borrow.Author.Needs.{needs}
 use Rattle.trackball_calls.proofs.stored.read.Statement.{statement}
 use Rattle.trackball_calls.proofs.stored.read.Tie as tie
 

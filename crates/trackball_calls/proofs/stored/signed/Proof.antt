@@ -1,7 +1,7 @@
 -- `trackball_calls::stored::signed` meets its contract. The upper half of the sixteen bits stands for the negative numbers.
 -- Assumes nothing.
-use Rattle.trackball_calls.proofs.Laws.Stored.{low-fits, low-read, less-fits, high-fits, high-read}
 use borrow.Author.Needs.{needs}
+use Rattle.trackball_calls.proofs.Laws.Stored.{low-fits, low-read, less-fits, high-fits, high-read}
 use Rattle.trackball_calls.proofs.stored.signed.Statement.{statement}
 use Rattle.trackball_calls.proofs.stored.signed.Tie as tie
 
