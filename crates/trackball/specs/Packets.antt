@@ -1,5 +1,5 @@
 -- Document 02, W8: the packet, and a report.
-use Prim.Native.Nat.{ℕ, _+_, _*_}
+use Prim.Native.Nat.{ℕ, _+_, _*_, _%_}
 use mathlib.Core.Bool.{cond}
 use mathlib.Core.List.{List, [], _∷_}
 use Rattle.translation.specs.Bits.{nibble}
@@ -8,7 +8,7 @@ use Rattle.trackball.specs.Trackball.{Mouse, withoutMovement}
 
 -- Buttons in bits 0-2, bit 3 one, the signs of x and y in 4 and 5, their overflows in 6 and 7.
 abbrev pub packetHead : Mouse → ℕ
-packetHead m = m .buttons + 8 + 16 * nibble (negative (m .x .sum)) (negative (m .y .sum)) (m .x .overflow) (m .y .overflow)
+packetHead m = m .buttons % 8 + 8 + 16 * nibble (negative (m .x .sum)) (negative (m .y .sum)) (m .x .overflow) (m .y .overflow)
 
 -- Then the low bytes, x before y.
 unfoldable pub packet : Mouse → List ℕ

@@ -1,5 +1,5 @@
 -- The trackball, and the bytes handed out, that the program's types stand for.
-use Prim.Native.Nat.{ℕ, _%_}
+use Prim.Native.Nat.{ℕ}
 use mathlib.Core.List.{List, [], _∷_}
 use Rattle.trackball.specs.declared.counters.Axis.{Axis}
 use Rattle.trackball.specs.declared.trackball.Trackball.{Trackball}
@@ -8,12 +8,12 @@ use Rattle.trackball.specs.declared.packets.Bytes.the-variants as varian
 use Rattle.trackball.specs.Counters.{Counter}
 use Rattle.trackball.specs.Trackball.{Mouse}
 
--- Of the byte of buttons only the bits 0-2 stand for something.
+-- Field by field.
 abbrev pub counter : Axis → Counter
 counter a = record { sum = a .sum; overflow = a .overflow }
 
 abbrev pub view : Trackball → Mouse
-view t = record { x = counter (t .x); y = counter (t .y); buttons = t .buttons % 8; reporting = t .reporting }
+view t = record { x = counter (t .x); y = counter (t .y); buttons = t .buttons; reporting = t .reporting }
 
 -- No bytes, or one to four of them.
 abbrev pub bytesIn : Bytes → List ℕ

@@ -6,7 +6,7 @@ ghost use mathlib.Core.Path.{_≡_};
 ghost use Rattle.trackball.specs.Trackball as ball;
 ghost use Rattle.trackball.specs.View.{view};
 
-// The buttons are bits 0-2; no other bit of them is looked at.
+// The buttons are bits 0-2; a packet has no other bit of them.
 pub struct Trackball {
     pub x: Axis,
     pub y: Axis,
@@ -35,7 +35,7 @@ pub fn moved(t: Trackball, buttons: u8, x: i16, y: i16) -> Trackball
     Trackball {
         x: stepped(along_x, x),
         y: stepped(along_y, y),
-        buttons,
+        buttons: buttons % 8,
         reporting: t.reporting,
     }
 }

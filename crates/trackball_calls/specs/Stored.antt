@@ -9,7 +9,8 @@ use Rattle.translation.specs.Bits.{has, nibble, word}
 use Rattle.trackball.specs.Counters.{complement}
 use Rattle.trackball.specs.Trackball.{Mouse}
 
--- Buttons in bits 0-2; reporting, the overflow of x and that of y in bits 0-2; then the sums, low byte first. Other bits are 0.
+-- Buttons in bits 0-2; reporting, the overflow of x and that of y in bits 0-2; then the sums, low byte first. Other bits are 0: there are no buttons but
+-- three in what is read, moved or fresh.
 unfoldable pub bytesOf : Mouse → List ℕ
 bytesOf m =
     m .buttons ∷ nibble (m .reporting) (m .x .overflow) (m .y .overflow) false ∷

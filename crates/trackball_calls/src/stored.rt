@@ -39,7 +39,7 @@ pub(crate) fn read(s: &Stored) -> Trackball
             sum: y,
             overflow: low / 4 % 2 == 1,
         },
-        buttons: s[0],
+        buttons: s[0] % 8,
         reporting: low / 1 % 2 == 1,
     }
 }
@@ -51,7 +51,7 @@ fn flags(reporting: bool, xover: bool, yover: bool) -> u8
     (reporting as u8) + 2 * (xover as u8) + 4 * (yover as u8)
 }
 
-// Bits that stand for nothing are 0.
+// What `read` gives has no bit that stands for nothing, nor has what a call makes of it.
 pub(crate) fn bytes_of(t: Trackball) -> Stored
     ensures { λ r. ⌜ r ≡ stored.bytesOf (view t) ⌝ }
 {
@@ -60,12 +60,9 @@ pub(crate) fn bytes_of(t: Trackball) -> Stored
     let x = complement(along_x.sum);
     let y = complement(along_y.sum);
     let low = flags(t.reporting, along_x.overflow, along_y.overflow);
-    [
-        t.buttons % 8,
-        low,
-        (x % 256) as u8,
-        (x / 256) as u8,
-        (y % 256) as u8,
-        (y / 256) as u8,
-    ]
+    let x_low = (x % 256) as u8;
+    let x_high = (x / 256) as u8;
+    let y_low = (y % 256) as u8;
+    let y_high = (y / 256) as u8;
+    [t.buttons, low, x_low, x_high, y_low, y_high]
 }

@@ -124,15 +124,15 @@ judged (b ∷ bs) below = ap₂ (λ (c : Check) (cs : List Check). c ∷ cs) (ch
 -- ---- what a trackball hands out
 
 -- each frame is judged sound with its byte
-pub reply-judged : (b : ℕ) (t : Mouse) → t .buttons < 8 → map check (map frame (replyBytes b t)) ≡ map sound (replyBytes b t)
-reply-judged b t three = judged (replyBytes b t) (replyBytes-below b t three)
+pub reply-judged : (b : ℕ) (t : Mouse) → map check (map frame (replyBytes b t)) ≡ map sound (replyBytes b t)
+reply-judged b t = judged (replyBytes b t) (replyBytes-below b t)
 
-pub report-judged : (t : Mouse) → t .buttons < 8 → map check (map frame (reportBytes t)) ≡ map sound (reportBytes t)
-report-judged t three = judged (reportBytes t) (reportBytes-below t three)
+pub report-judged : (t : Mouse) → map check (map frame (reportBytes t)) ≡ map sound (reportBytes t)
+report-judged t = judged (reportBytes t) (reportBytes-below t)
 
 -- and a controller that is ready reads its bytes
-pub reply-read : (m : Machine) → Ready (m .plain) → (b : ℕ) (t : Mouse) → t .buttons < 8 → AllRead m (map frame (replyBytes b t)) (replyBytes b t)
-reply-read m ready b t three = delivered m ready (replyBytes b t) (replyBytes-below b t three)
+pub reply-read : (m : Machine) → Ready (m .plain) → (b : ℕ) (t : Mouse) → AllRead m (map frame (replyBytes b t)) (replyBytes b t)
+reply-read m ready b t = delivered m ready (replyBytes b t) (replyBytes-below b t)
 
-pub report-read : (m : Machine) → Ready (m .plain) → (t : Mouse) → t .buttons < 8 → AllRead m (map frame (reportBytes t)) (reportBytes t)
-report-read m ready t three = delivered m ready (reportBytes t) (reportBytes-below t three)
+pub report-read : (m : Machine) → Ready (m .plain) → (t : Mouse) → AllRead m (map frame (reportBytes t)) (reportBytes t)
+report-read m ready t = delivered m ready (reportBytes t) (reportBytes-below t)

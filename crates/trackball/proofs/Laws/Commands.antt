@@ -68,15 +68,15 @@ below-cons b l first rest (suc k) = rest k
 below-nil : Below 256 []
 below-nil k = omega arith
 
-pub reportBytes-below : (m : Mouse) → m .buttons < 8 → Below 256 (reportBytes m)
-reportBytes-below m three =
-    split (m .reporting) (λ on. subst (Below 256) (sym (chosen m true on .1)) (packet-below m three))
+pub reportBytes-below : (m : Mouse) → Below 256 (reportBytes m)
+reportBytes-below m =
+    split (m .reporting) (λ on. subst (Below 256) (sym (chosen m true on .1)) (packet-below m))
     (λ off. subst (Below 256) (sym (chosen m false off .1)) below-nil)
 
-pub replyBytes-below : (b : ℕ) (m : Mouse) → m .buttons < 8 → Below 256 (replyBytes b m)
+pub replyBytes-below : (b : ℕ) (m : Mouse) → Below 256 (replyBytes b m)
 unfolding replyBytes
-replyBytes-below b m three =
-    split (eqb b 0xEB) (λ h. simp h (below-cons 0xFA (packet m) (omega arith) (packet-below m three))) λ eb.
+replyBytes-below b m =
+    split (eqb b 0xEB) (λ h. simp h (below-cons 0xFA (packet m) (omega arith) (packet-below m))) λ eb.
     split (eqb b 0xF2) (λ h. simp (eb, h) (below-cons 0xFA (0x00 ∷ []) (omega arith) (below-cons 0x00 [] (omega arith) below-nil))) λ f2.
     split (eqb b 0xF4 || eqb b 0xF5) (λ h. simp (eb, f2, h) (below-cons 0xFA [] (omega arith) below-nil)) λ f4.
     split (eqb b 0xFF)

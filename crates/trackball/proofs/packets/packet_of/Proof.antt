@@ -1,4 +1,4 @@
--- `trackball::packets::packet_of` meets its contract.
+-- `trackball::packets::packet_of` meets its contract: the parts of the sums, and the first byte, are the definition's.
 -- Assumes nothing.
 use borrow.Author.Needs.{needs}
 use Rattle.trackball.specs.View.{view}

@@ -1,4 +1,4 @@
--- `trackball::trackball::fresh` meets its contract.
+-- `trackball::trackball::fresh` meets its contract: no movement along either axis.
 -- Assumes nothing.
 use borrow.Author.Needs.{needs}
 use Rattle.trackball.proofs.trackball.fresh.Statement.{statement}

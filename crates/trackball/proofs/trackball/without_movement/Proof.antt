@@ -1,4 +1,4 @@
--- `trackball::trackball::without_movement` meets its contract.
+-- `trackball::trackball::without_movement` meets its contract: no movement along either axis, all else as it was.
 -- Assumes nothing.
 use borrow.Author.Needs.{needs}
 use Rattle.trackball.proofs.trackball.without_movement.Statement.{statement}

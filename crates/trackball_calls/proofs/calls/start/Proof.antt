@@ -1,4 +1,4 @@
--- `trackball_calls::calls::start` meets its contract.
+-- `trackball_calls::calls::start` meets its contract: the bytes of a fresh trackball.
 -- Assumes nothing.
 use borrow.Author.Needs.{needs}
 use mathlib.Core.Path.{ap, _∙_}

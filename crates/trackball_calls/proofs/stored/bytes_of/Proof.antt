@@ -1,4 +1,4 @@
--- `trackball_calls::stored::bytes_of` meets its contract.
+-- `trackball_calls::stored::bytes_of` meets its contract: each byte is the definition's.
 -- Assumes nothing.
 use borrow.Author.Needs.{needs}
 use Rattle.trackball.specs.View.{view}
@@ -15,25 +15,24 @@ complement-requires-2 c κs = search needs
 flags-requires : tie.Need-flags-requires
 flags-requires c κs = search needs
 
-cast-t9 : tie.Need-cast-t9
-cast-t9 c = search needs
+cast-x-low : tie.Need-cast-x-low
+cast-x-low c = search needs
 
-cast-t11 : tie.Need-cast-t11
-cast-t11 c = search needs
+cast-x-high : tie.Need-cast-x-high
+cast-x-high c = search needs
 
-cast-t13 : tie.Need-cast-t13
-cast-t13 c = search needs
+cast-y-low : tie.Need-cast-y-low
+cast-y-low c = search needs
 
-cast-t15 : tie.Need-cast-t15
-cast-t15 c = search needs
+cast-y-high : tie.Need-cast-y-high
+cast-y-high c = search needs
 
 returns : tie.Need-returns
 returns c =
-    let flagged = c .before in
-    let second = flagged .before in
+    let second = c .before in
     let first = second .before .before in
     bytesOf-made (view (first .before .before .before .before .args .t)) (record { sfits = first .before .struct-told .given .0 .1 })
-    (record { sfits = second .before .struct-told2 .given .0 .1 }) (first .complement .ensures) (second .complement2 .ensures) (flagged .flags .ensures)
+    (record { sfits = second .before .struct-told2 .given .0 .1 }) (first .complement .ensures) (second .complement2 .ensures) (c .flags .ensures)
 
 pub bytes-of-spec : {M : Type 1} → statement M
 bytes-of-spec =
@@ -42,8 +41,8 @@ bytes-of-spec =
     complement-requires
     complement-requires-2
     flags-requires
-    cast-t9
-    cast-t11
-    cast-t13
-    cast-t15
+    cast-x-low
+    cast-x-high
+    cast-y-low
+    cast-y-high
     returns)

@@ -1,4 +1,4 @@
--- `trackball_calls::stored::read` meets its contract.
+-- `trackball_calls::stored::read` meets its contract: the words of the sums are read as signed numbers.
 -- Assumes nothing.
 use borrow.Author.Needs.{needs}
 use denote.Ref.{now}
