@@ -54,12 +54,15 @@ pub extern "C" fn calugnid_version_byte(state: &State) -> u8
     version(state)
 }
 
-// The version of the library, which its header has as CALUGNID_VERSION.
+// What the header has as CALUGNID_VERSION.
+const LIBRARY_VERSION: u32 = 3;
+
+// The version of the library.
 #[no_mangle]
 pub extern "C" fn calugnid_library_version() -> u32
     ensures { λ r. ⌜ r ≡ libraryVersion ⌝ }
 {
-    2
+    LIBRARY_VERSION
 }
 
 // How many bytes a state has.

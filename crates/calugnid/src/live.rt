@@ -5,8 +5,6 @@ use controller::run::event;
 use controller::run::run;
 use controller::run::run_counted;
 use controller::run::show_lines;
-use image::load::load;
-use image::save::save;
 use state::state::State;
 use state::state::start;
 ghost use mathlib.Core.Path.{_≡_};
@@ -16,7 +14,6 @@ ghost use Rattle.machine.specs.State.{fresh};
 ghost use Rattle.machine.specs.Events as events;
 ghost use Rattle.state.specs.View.{public, stateOf};
 ghost use Rattle.controller.specs.Promises.{EventAnswered, ListRun, CountedRun};
-ghost use Rattle.image.specs.Promises.{Saved, Loaded};
 ghost use Rattle.calugnid.specs.Values.{eventOf};
 
 // A controller after power-on, with the settings that the options name, a version byte and the built-in key table.
@@ -84,20 +81,4 @@ pub extern "C" fn calugnid_run_fitting(
     ensures { λ r. ⌜ CountedRun (now (state .entry)) (now (list .entry)) (now (answers .entry)) (now (count .entry)) r (now (state .exit)) (now (answers .exit)) (now (count .exit)) ⌝ }
 {
     run_counted(state, list, answers, count)
-}
-
-// The state saved, but for its settings: 0, or 9 with nothing written.
-#[no_mangle]
-pub extern "C" fn calugnid_save(state: &State, saved: &mut [u8]) -> u8
-    ensures { λ r. ⌜ Saved (now (state .entry)) (now (saved .entry)) r (now (saved .exit)) ⌝ }
-{
-    save(state, saved)
-}
-
-// The state of the image at the end of the bytes, with the ordinary settings: 0, or 10 or 11 with the state as it was.
-#[no_mangle]
-pub extern "C" fn calugnid_load(state: &mut State, image: &[u8]) -> u8
-    ensures { λ r. ⌜ Loaded (now (state .entry)) (now (image .entry)) r (now (state .exit)) ⌝ }
-{
-    load(state, image)
 }

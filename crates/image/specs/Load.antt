@@ -1,28 +1,27 @@
--- "Saved image", a load: checks 10 and 11, and the machine after it.
+-- "Saved image", a load of either edition: its checks, and the machine after it. The version byte and the key table are given again (document 02, W9).
 use Prim.Native.Nat.{ℕ}
 use mathlib.Core.Bool.{cond}
 use mathlib.Core.List.{List, _++_}
 use lib.Dec.{eqb}
-use Rattle.machine.specs.Settings.{ordinary}
-use Rattle.machine.specs.State.{Machine, fresh}
-use Rattle.state.specs.View.{beyond, view}
-use Rattle.image_bytes.specs.Layout.{bodyLength}
-use Rattle.image_bytes.specs.Find.{ends, found}
-use Rattle.image_bytes.specs.Rules.{bodyKept}
+use Rattle.translation.specs.KeyTable.{tableRefusal}
+use Rattle.machine.specs.State.{Machine}
+use Rattle.state.specs.View.{given, view}
+use Rattle.image_bytes.specs.Checks.{firstOf}
+use Rattle.image_bytes.specs.Find.{found}
+use Rattle.editions.specs.Read.{completed, imageRefusal}
 
--- Check 10: under 68 bytes, or mark, edition, distance or sum is wrong. Check 11: the body breaks a body rule.
-unfoldable pub loadRefusal : List ℕ → ℕ
-loadRefusal bytes = cond (ends 1 bodyLength bytes) (cond (bodyKept (found bytes)) 0 11) 10
+-- Checks 10 and 11 of the image, then 13, 14 and 15 of the table.
+unfoldable pub loadRefusal : List ℕ → List ℕ → ℕ
+loadRefusal table bytes = firstOf (imageRefusal bytes) (tableRefusal table)
 
--- A body of edition 1 has no room for the settings and for what AT mode and the second command set add: the state has those of an ordinary start
--- behind it (document 02, W1).
-abbrev pub stateFrom : List ℕ → List ℕ
-stateFrom b = b ++ beyond (fresh ordinary .plain)
+-- The state of a body: as edition 2 has it, and what is given behind it.
+abbrev pub stateFrom : ℕ → List ℕ → List ℕ → List ℕ
+stateFrom version table b = completed b ++ given version table
 
 -- the machine of the body that was found
-abbrev pub resumed : List ℕ → Machine
-resumed bytes = view (stateFrom (found bytes))
+abbrev pub resumed : ℕ → List ℕ → List ℕ → Machine
+resumed version table bytes = view (stateFrom version table (found bytes))
 
 -- A refused load leaves the machine as it was.
-unfoldable pub loaded : Machine → List ℕ → Machine
-loaded m bytes = cond (eqb (loadRefusal bytes) 0) (resumed bytes) m
+unfoldable pub loaded : ℕ → List ℕ → Machine → List ℕ → Machine
+loaded version table m bytes = cond (eqb (loadRefusal table bytes) 0) (resumed version table bytes) m

@@ -2,12 +2,12 @@
 use Prim.Native.Nat.{ℕ, _+_, _-_}
 use mathlib.Core.Path.{_≡_}
 use mathlib.Core.Bool.{Bool, cond, _&&_}
-use mathlib.Core.List.{List, []}
+use mathlib.Core.List.{List}
 use lib.ListN.{length, getD, take, drop}
 use lib.Dec.{eqb, leb}
 use Rattle.translation.specs.Bits.{word}
 use Rattle.image_bytes.specs.Sum.{wordSum}
-use Rattle.image_bytes.specs.Layout.{bodyLength, trailerLength, imageLength}
+use Rattle.image_bytes.specs.Layout.{firstLength, bodyLength, trailerLength}
 
 -- the last n bytes
 abbrev pub lastBytes : ℕ → List ℕ → List ℕ
@@ -40,13 +40,17 @@ ends edition n bytes =
     leb (n + trailerLength) (length bytes)
     && (marked t && (eqb (editionOf t) edition && (eqb (distanceOf t) n && eqb (sumOf t) (wordSum (bodyOf n bytes)))))
 
+-- How many bytes the body has, by the edition that the trailer names; 0 if check 10 refuses the bytes.
+unfoldable pub bodySize : List ℕ → ℕ
+bodySize bytes = cond (ends 1 firstLength bytes) firstLength (cond (ends 2 bodyLength bytes) bodyLength 0)
+
 -- The body, or nothing if check 10 refuses the bytes.
 unfoldable pub found : List ℕ → List ℕ
-found bytes = cond (ends 1 bodyLength bytes) (bodyOf bodyLength bytes) []
+found bytes = bodyOf (bodySize bytes) bytes
 
 -- Where the body starts, or the length where there is none.
 unfoldable pub bodyStart : List ℕ → ℕ
-bodyStart bytes = cond (ends 1 bodyLength bytes) (length bytes - imageLength) (length bytes)
+bodyStart bytes = cond (eqb (bodySize bytes) 0) (length bytes) (length bytes - (bodySize bytes + trailerLength))
 
 -- A place is a block of memory and an offset in it; this one is k bytes further on.
 abbrev pub further : ℕ × ℕ → ℕ → ℕ × ℕ

@@ -4,10 +4,14 @@ use mathlib.Core.List.{List, [], _∷_, _++_}
 use lib.ListN.{length}
 use Rattle.image_bytes.specs.Sum.{lowByte, highByte, wordSum}
 
--- How many bytes a body of edition 1 has, a trailer, and an image of edition 1.
-abbrev pub bodyLength : ℕ
-bodyLength = 60
+-- How many bytes a body of edition 1 has, and one of edition 2, which a save writes (document 02, W9).
+abbrev pub firstLength : ℕ
+firstLength = 60
 
+abbrev pub bodyLength : ℕ
+bodyLength = 64
+
+-- a trailer, and the image that a save writes
 abbrev pub trailerLength : ℕ
 trailerLength = 8
 

@@ -1,5 +1,5 @@
+pub mod Checks
 pub mod Sum
 pub mod Layout
+pub mod Seal
 pub mod Find
-pub mod Body
-pub mod Rules

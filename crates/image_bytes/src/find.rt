@@ -1,6 +1,8 @@
 // The image at the end of a caller's bytes.
 use crate::layout::BODY;
 use crate::layout::EDITION;
+use crate::layout::FIRST_BODY;
+use crate::layout::FIRST_EDITION;
 use crate::layout::TRAILER;
 use crate::sum::word_sum;
 use translation::bits::word;
@@ -37,11 +39,24 @@ fn ends(bytes: &[u8], edition: u8, size: usize) -> bool
     marked(bytes, at) & ((bytes[at + 4] == edition) & ((distance == size) & (stored == total)))
 }
 
+// How many bytes the body has, by the edition that the trailer names; 0 if check 10 refuses the bytes.
+pub fn body_size(bytes: &[u8]) -> usize
+    ensures { λ r. ⌜ r ≡ spec.bodySize (now (bytes .entry)) ⌝ }
+{
+    if ends(bytes, FIRST_EDITION, FIRST_BODY) {
+        return FIRST_BODY;
+    }
+    if ends(bytes, EDITION, BODY) {
+        return BODY;
+    }
+    0
+}
+
 // Where the body starts that the trailer points back to, or the length of the bytes if check 10 refuses them.
 pub fn body_start(bytes: &[u8]) -> usize
     ensures { λ r. ⌜ r ≡ spec.bodyStart (now (bytes .entry)) ⌝ }
 {
-    if !ends(bytes, EDITION, BODY) {
+    if body_size(bytes) == 0 {
         return bytes.len();
     }
     let at = bytes.len() - TRAILER;

@@ -3,17 +3,22 @@ use crate::sum::word_sum;
 ghost use mathlib.Core.Path.{_≡_};
 ghost use Rattle.image_bytes.specs.Layout as layout;
 
-// How many bytes a body, a trailer and an image of edition 1 have.
-pub const BODY: usize = 60;
+// How many bytes a body of edition 1 has.
+pub const FIRST_BODY: usize = 60;
+
+pub const FIRST_EDITION: u8 = 1;
+
+// A body of edition 2, and the image that a save writes.
+pub const BODY: usize = 64;
+
+pub const EDITION: u8 = 2;
 
 pub const TRAILER: usize = 8;
 
-pub const IMAGE: usize = 68;
-
-pub const EDITION: u8 = 1;
+pub const IMAGE: usize = 72;
 
 // The trailer of a body.
-pub fn trailer(edition: u8, body: &[u8]) -> [u8; 8]
+pub(crate) fn trailer(edition: u8, body: &[u8]) -> [u8; 8]
     ensures { λ r. ⌜ r ≡ layout.trailer edition (now (body .entry)) ⌝ }
 {
     let distance = body.len();

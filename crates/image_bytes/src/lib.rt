@@ -1,6 +1,5 @@
-// The bytes of a saved image: the body's sum and trailer, the finder, and the body rules. What the bytes stand for is said by the crates above.
-pub mod body;
+// The bytes of a saved image around its body: the sum, the trailer, writing one, and finding one. What a body holds is said by the crates above.
 pub mod find;
 pub mod layout;
-pub mod rules;
+pub mod seal;
 mod sum;

@@ -1,6 +1,5 @@
--- "Saved image", the body: the program's state begins with the bytes that an image holds. After them come the start settings and what AT mode and
--- the second command set add, in the places that document 02's W9 gives them. The version byte and the key table, which are in no image, come last.
--- One table, read both ways.
+-- "Saved image", the body, with the four bytes that document 02's W9 adds: the program's state begins with the bytes that an image holds. Behind them
+-- come the version byte and the key table, which are in no image and are given again at a load. One table, read both ways.
 use Prim.Native.Nat.{ℕ, _+_, _-_, _*_}
 use mathlib.Core.Path.{_≡_}
 use mathlib.Core.Bool.{Bool, false}
@@ -48,10 +47,6 @@ head m =
 abbrev pub padded : List ℕ → List ℕ
 padded code = code ++ replicate (16 - length code) 0
 
--- The bytes that an image has of a machine; 28-59 are the RAM.
-unfoldable pub body : Machine → List ℕ
-body m = head m ++ padded (m .secret .code) ++ m .plain .ram
-
 -- Byte 60: the options, mouse lock in bit 0, AT mode in bit 1, the second command set in bit 2; and in bit 3 whether D1h may write P22 and P23.
 abbrev pub optionsOf : Settings → Bool → ℕ
 optionsOf x allowed = nibble (x .mouseLock) (x .atMode) (x .secondSet) allowed
@@ -60,20 +55,26 @@ optionsOf x allowed = nibble (x .mouseLock) (x .atMode) (x .secondSet) allowed
 abbrev pub highLatches : Public → ℕ
 highLatches p = nibble (p .ports .p22) (p .ports .p23) false (p .ports .p25)
 
--- What a state has behind those bytes. Byte 61 has the latches of P10-P15, byte 63 the transmit time-out in bit 0, byte 64 is the version byte, and
--- the key table stands from byte 65 on.
-abbrev pub beyond : Public → List ℕ
-beyond p =
+-- Bytes 60-63: the options, the latches of P10-P15, those of P22, P23 and P25, and the transmit time-out in bit 0.
+abbrev pub added : Public → List ℕ
+added p =
     optionsOf (p .settings) (p .ports .highAllowed)
     ∷ p .ports .inputLatches
     ∷ highLatches p
     ∷ nibble (p .errors .ttim) false false false
-    ∷ p .settings .version
-    ∷ p .settings .table
+    ∷ []
+
+-- The bytes that an image has of a machine; 28-59 are the RAM.
+unfoldable pub body : Machine → List ℕ
+body m = head m ++ padded (m .secret .code) ++ m .plain .ram ++ added (m .plain)
+
+-- What a state has behind them: byte 64 is the version byte, and the key table stands from byte 65 on.
+abbrev pub given : ℕ → List ℕ → List ℕ
+given version table = version ∷ table
 
 -- The bytes of a machine.
 unfoldable pub stateOf : Machine → List ℕ
-stateOf m = body m ++ beyond (m .plain)
+stateOf m = body m ++ given (m .plain .settings .version) (m .plain .settings .table)
 
 -- byte k
 abbrev pub at : List ℕ → ℕ → ℕ

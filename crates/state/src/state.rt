@@ -1,5 +1,5 @@
-// The controller's state: bytes that a run changes in place. The first sixty are those of a saved image's body; the settings and what AT mode
-// and the second command set add stand behind them, the key table last.
+// The controller's state: bytes that a run changes in place. The first 64 are those of a saved image's body; the version byte and the key table,
+// which are in no image, stand behind them.
 use crate::bits::nibble;
 use translation::key_table::built_in;
 use translation::key_table::table_refusal;

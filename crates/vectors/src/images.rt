@@ -1,11 +1,14 @@
-// Saves and loads at their edges. Each line has a name, the refusal, and the sum of the bytes that came of it: of a save the space that was lent,
-// of a load the image of the state that came back.
+// Saves, loads and moves at their edges. Each line has a name, the refusal, and the sum of the bytes that came of it: of a save and of a move the
+// space that was lent, of a load the image of the state that came back.
 use crate::print::put;
 use crate::print::put_number;
 use crate::text::part;
+use editions::moves::to_first;
+use editions::moves::to_second;
 use image::find::find;
 use image::load::load;
 use image::save::save;
+use image_bytes::seal::seal;
 use state::flags::with_breaks;
 use state::flags::with_command;
 use state::flags::with_errors;
@@ -29,11 +32,14 @@ use std::num::wrapping_add_u16;
 // What a space holds before a save.
 const FILL: u8 = 0xEE;
 
+// The version byte given at each load.
+const GIVEN: u8 = 0x5A;
+
 // How many bodies are tried.
-const BODIES: usize = 43;
+const BODIES: usize = 55;
 
 // Bytes of a body and the values that they take: two of each in a row, or one twice.
-const TRIED: [u32; 43] = [
+const TRIED: [u32; 55] = [
     0x01_00_01_00, // no flag
     0x01_03_01_03, // mouse source and OBF
     0x01_80_01_80, // flags bit 7
@@ -77,6 +83,18 @@ const TRIED: [u32; 43] = [
     0x1C_80_1C_80, // mode bit 7
     0x1C_FF_1C_FF, // mode FF
     0x3B_FF_3B_FF, // the last cell
+    0x3C_10_3C_10, // options bit 4
+    0x3C_0B_3C_0B, // permission with the first set
+    0x3C_0F_3C_0F, // permission with the second set
+    0x3C_01_3C_01, // PS/2 mode with P25 and a time-out
+    0x3D_3E_3D_3E, // P10 low with the first set
+    0x3C_07_3D_00, // latches low with the second set
+    0x3C_07_3D_40, // input latches bit 6
+    0x3E_04_3E_04, // high latches bit 2
+    0x3E_10_3E_10, // high latches bit 4
+    0x3E_00_3E_00, // P22, P23 and P25 low
+    0x3F_00_3F_00, // no time-out
+    0x3F_02_3F_02, // time-out bit 1
 ];
 
 // OBF, PERR, C and the break flag.
@@ -114,14 +132,14 @@ fn sample(n: u8) -> State {
     s[INPUT_LATCHES] = 0x3F;
     s[HIGH_LATCHES] = 0xA;
     s[TTIM] = 1;
-    s[VERSION] = 0x5A;
+    s[VERSION] = GIVEN;
     s
 }
 
 // Its image.
-fn image_of(n: u8) -> [u8; 68] {
+fn image_of(n: u8) -> [u8; 72] {
     let s = sample(n);
-    let mut image = [0u8; 68];
+    let mut image = [0u8; 72];
     save(&s, &mut image);
     image
 }
@@ -161,29 +179,29 @@ fn try_save(out: &mut [u8]) {
 
 fn try_load(bytes: &[u8]) {
     let mut s = start(0, 0);
-    let refusal = load(&mut s, bytes);
-    let mut out = [0u8; 68];
+    let refusal = load(&mut s, GIVEN, bytes);
+    let mut out = [0u8; 72];
     save(&s, &mut out);
     put_line(refusal, &out);
 }
 
 // An image with the sum of its body put right.
-fn summed(mut image: [u8; 68]) -> [u8; 68] {
+fn summed(mut image: [u8; 72]) -> [u8; 72] {
     let mut total: u16 = 0;
     let mut i = 0;
-    while i < 30 {
+    while i < 32 {
         total = wrapping_add_u16(total, word(image[2 * i], image[2 * i + 1]));
         i += 1;
     }
-    image[62] = (total % 256) as u8;
-    image[63] = (total / 256) as u8;
+    image[66] = (total % 256) as u8;
+    image[67] = (total / 256) as u8;
     image
 }
 
 // An image with one byte replaced.
-fn with_byte(mut image: [u8; 68], k: u8, v: u8) -> [u8; 68] {
+fn with_byte(mut image: [u8; 72], k: u8, v: u8) -> [u8; 72] {
     let at = k as usize;
-    if at < 68 {
+    if at < 72 {
         image[at] = v;
     }
     image
@@ -195,19 +213,19 @@ fn other(x: u8) -> u8 {
 }
 
 fn try_saves() {
-    let mut short = [FILL; 67];
+    let mut short = [FILL; 71];
     try_save(&mut short);
-    let mut whole = [FILL; 68];
+    let mut whole = [FILL; 72];
     try_save(&mut whole);
-    let mut long = [FILL; 72];
+    let mut long = [FILL; 76];
     try_save(&mut long);
 }
 
 // An image behind 31 bytes and before one.
-fn placed(image: [u8; 68]) -> [u8; 100] {
-    let mut bytes = [FILL; 100];
+fn placed(image: [u8; 72]) -> [u8; 104] {
+    let mut bytes = [FILL; 104];
     let mut i = 0;
-    while i < 68 {
+    while i < 72 {
         bytes[31 + i] = image[i];
         i += 1;
     }
@@ -219,8 +237,8 @@ fn try_place(name: &[u8], bytes: &[u8], from: usize, to: usize) {
     try_load(part(bytes, from, to));
 }
 
-fn try_find(bytes: &[u8]) {
-    put(b"find");
+fn try_find(name: &[u8], bytes: &[u8]) {
+    put(name);
     let body = find(bytes);
     put_number(body.len() as u64);
     put_number(added(body));
@@ -229,17 +247,17 @@ fn try_find(bytes: &[u8]) {
 
 // The image by itself, cut short, behind other bytes, and before one.
 fn try_places(bytes: &[u8]) {
-    try_place(b"load whole", bytes, 31, 99);
-    try_place(b"load short", bytes, 32, 99);
-    try_place(b"load behind", bytes, 0, 99);
-    try_place(b"load before", bytes, 0, 100);
-    try_find(part(bytes, 0, 99));
+    try_place(b"load whole", bytes, 31, 103);
+    try_place(b"load short", bytes, 32, 103);
+    try_place(b"load behind", bytes, 0, 103);
+    try_place(b"load before", bytes, 0, 104);
+    try_find(b"find", part(bytes, 0, 103));
 }
 
 // A byte of the trailer changed.
-fn try_trailer(image: [u8; 68], k: u8) {
+fn try_trailer(image: [u8; 72], k: u8) {
     let at = k as usize;
-    if at < 68 {
+    if at < 72 {
         let changed = with_byte(image, k, other(image[at]));
         put(b"trailer");
         put_value(k);
@@ -247,9 +265,9 @@ fn try_trailer(image: [u8; 68], k: u8) {
     }
 }
 
-fn try_trailers(image: [u8; 68]) {
-    let mut i: u8 = 60;
-    while i < 68 {
+fn try_trailers(image: [u8; 72]) {
+    let mut i: u8 = 64;
+    while i < 72 {
         try_trailer(image, i);
         i += 1;
     }
@@ -273,17 +291,17 @@ fn put_row(row: u32) {
 }
 
 // The image with what a row says, and the sum of its body right.
-fn with_row(image: [u8; 68], row: u32) -> [u8; 68] {
+fn with_row(image: [u8; 72], row: u32) -> [u8; 72] {
     let once = with_byte(image, low(row / 0x100_0000), low(row / 0x1_0000));
     summed(with_byte(once, low(row / 0x100), low(row)))
 }
 
-fn try_body(image: [u8; 68], row: u32) {
+fn try_body(image: [u8; 72], row: u32) {
     put_row(row);
     try_load(&with_row(image, row));
 }
 
-fn try_bodies(image: [u8; 68]) {
+fn try_bodies(image: [u8; 72]) {
     let mut i = 0;
     while i < BODIES {
         try_body(image, tried(i));
@@ -291,7 +309,7 @@ fn try_bodies(image: [u8; 68]) {
     }
 }
 
-fn try_image(name: &[u8], image: [u8; 68]) {
+fn try_image(name: &[u8], image: [u8; 72]) {
     put(name);
     try_load(&image);
 }
@@ -306,6 +324,51 @@ fn try_codes() {
     try_image(b"code seventeen", summed(with_byte(most, 10, 17)));
 }
 
+// The front of an image as one of edition 1.
+fn old_of(image: [u8; 72]) -> [u8; 68] {
+    let mut old = [0u8; 68];
+    seal(1, part(&image, 0, 60), &mut old);
+    old
+}
+
+fn try_forward(name: &[u8], bytes: &[u8], out: &mut [u8]) {
+    put(name);
+    let refusal = to_second(bytes, out);
+    put_line(refusal, out);
+}
+
+fn try_back(name: &[u8], bytes: &[u8], out: &mut [u8]) {
+    put(name);
+    let refusal = to_first(bytes, out);
+    put_line(refusal, out);
+}
+
+// An image of edition 1 loaded, found and moved.
+fn try_forwards(old: [u8; 68], new: [u8; 72]) -> [u8; 72] {
+    put(b"old whole");
+    try_load(&old);
+    try_find(b"old find", &old);
+    let mut whole = [FILL; 72];
+    try_forward(b"forward whole", &old, &mut whole);
+    let mut short = [FILL; 71];
+    try_forward(b"forward short", &old, &mut short);
+    let mut other = [FILL; 72];
+    try_forward(b"forward new", &new, &mut other);
+    whole
+}
+
+// What it moved to moved back, and images that have no way back.
+fn try_backs(moved: [u8; 72], new: [u8; 72], old: [u8; 68]) {
+    let mut whole = [FILL; 68];
+    try_back(b"back whole", &moved, &mut whole);
+    let mut short = [FILL; 67];
+    try_back(b"back short", &moved, &mut short);
+    let mut settings = [FILL; 68];
+    try_back(b"back settings", &new, &mut settings);
+    let mut other = [FILL; 68];
+    try_back(b"back old", &old, &mut other);
+}
+
 pub fn try_all() {
     try_saves();
     let image = image_of(3);
@@ -314,4 +377,7 @@ pub fn try_all() {
     try_trailers(image);
     try_bodies(image);
     try_codes();
+    let old = old_of(image);
+    let moved = try_forwards(old, image);
+    try_backs(moved, image, old);
 }

@@ -1,47 +1,63 @@
 -- Laws of the definitions in specs/Load. Assumes nothing.
-use mathlib.Core.Path.{_≡_, refl, sym, _∙_}
-use mathlib.Core.Bool.{true, false}
-use mathlib.Core.List.{List}
+use mathlib.Core.Path.{_≡_, ap, sym, _∙_}
+use mathlib.Core.List.{List, _++_}
 use Prim.Native.Nat.{ℕ}
-use borrow.Author.Tests.{eq-eqb, ne-eqb, eqb-false}
-use Rattle.translation.proofs.Tests.{split}
+use native.Mathlib.Omega.{arith}
+use lib.ListN.{length, drop, length-append}
+use lib.Seq.{drop-at, drop-drop, getD-drop}
+use lib.Dec.{eqb}
+use borrow.Author.Tests.{eq-eqb, ne-eqb, eqb-true, eqb-false}
+use Rattle.translation.specs.KeyTable.{builtIn, tableRefusal}
+use Rattle.translation.proofs.KeyTable.{builtIn-passes}
+use Rattle.translation.proofs.Tests.{split, cond-true, cond-false}
 use Rattle.machine.specs.State.{Machine}
-use Rattle.image_bytes.specs.Layout.{bodyLength}
-use Rattle.image_bytes.specs.Find.{ends, found}
-use Rattle.image_bytes.specs.Rules.{bodyKept}
-use Rattle.image_bytes.proofs.Laws.Tests.{cond-true, cond-false}
+use Rattle.state.specs.View.{stateLength, given, at}
+use Rattle.image_bytes.proofs.Laws.Checks.{firstOf-none, firstOf-some, firstOf-zero}
+use Rattle.editions.specs.Read.{imageRefusal}
 use Rattle.image.specs.Load.{loadRefusal, resumed, loaded}
 
--- ---- loadRefusal, loaded
-module _ (m : Machine) (bytes : List ℕ) where
-  -- a refused load leaves the machine as it was
-  pub loaded-refused : (n : ℕ) → loadRefusal bytes ≡ n → (n ≡ 0 → ⊥) → loaded m bytes ≡ m
-  unfolding loaded
-  loaded-refused n e some = cond-false _ _ _ (ne-eqb (loadRefusal bytes) 0 (λ z. some (sym e ∙ z)))
+-- ---- given, behind a body
+module _ (b : List ℕ) (long : length b ≡ 64) (version : ℕ) (table : List ℕ) where
+  pub length-given : length table ≡ 256 → length (b ++ given version table) ≡ stateLength
+  length-given whole = length-append b (given version table) ∙ omega arith
 
-  pub loaded-accepted : loadRefusal bytes ≡ 0 → loaded m bytes ≡ resumed bytes
-  unfolding loaded
-  loaded-accepted e = cond-true _ _ _ (eq-eqb (loadRefusal bytes) 0 e)
+  pub drop-given : drop 64 (b ++ given version table) ≡ given version table
+  drop-given = drop-at b (given version table) 64 long
 
-module _ (bytes : List ℕ) where
-  pub loadRefusal-none : ends 1 bodyLength bytes ≡ false → loadRefusal bytes ≡ 10
+  pub version-given : at (b ++ given version table) 64 ≡ version
+  version-given = sym (getD-drop 64 (b ++ given version table) 0 0) ∙ ap (λ (l : List ℕ). at l 0) drop-given
+
+  pub table-given : drop 65 (b ++ given version table) ≡ table
+  table-given = sym (drop-drop 1 64 (b ++ given version table)) ∙ ap (drop 1) drop-given
+
+-- ---- loadRefusal
+module _ (table bytes : List ℕ) where
+  pub loadRefusal-image : (imageRefusal bytes ≡ 0 → ⊥) → loadRefusal table bytes ≡ imageRefusal bytes
   unfolding loadRefusal
-  loadRefusal-none e = cond-false _ _ _ e
+  loadRefusal-image stands = firstOf-some (imageRefusal bytes) (tableRefusal table) stands
 
-  pub loadRefusal-broken : ends 1 bodyLength bytes ≡ true → bodyKept (found bytes) ≡ false → loadRefusal bytes ≡ 11
+  pub loadRefusal-table : imageRefusal bytes ≡ 0 → loadRefusal table bytes ≡ tableRefusal table
   unfolding loadRefusal
-  loadRefusal-broken e k = cond-true _ _ _ e ∙ cond-false _ _ _ k
+  loadRefusal-table z = firstOf-none (imageRefusal bytes) (tableRefusal table) z
 
-  pub loadRefusal-kept : ends 1 bodyLength bytes ≡ true → bodyKept (found bytes) ≡ true → loadRefusal bytes ≡ 0
+  pub accepted : loadRefusal table bytes ≡ 0 → (imageRefusal bytes ≡ 0) × (tableRefusal table ≡ 0)
   unfolding loadRefusal
-  loadRefusal-kept e k = cond-true _ _ _ e ∙ cond-true _ _ _ k
+  accepted z = firstOf-zero (imageRefusal bytes) (tableRefusal table) z
 
-  -- and the other way round
-  pub accepted : loadRefusal bytes ≡ 0 → (ends 1 bodyLength bytes ≡ true) × (bodyKept (found bytes) ≡ true)
-  accepted z =
-      split (ends 1 bodyLength bytes)
-      (λ e. split (bodyKept (found bytes)) (λ k. (e, k)) (λ k. absurd (never 11 (eqb-false 11 0 refl) (loadRefusal-broken e k))))
-      (λ e. absurd (never 10 (eqb-false 10 0 refl) (loadRefusal-none e)))
-    where
-      never : (n : ℕ) → (n ≡ 0 → ⊥) → loadRefusal bytes ≡ n → ⊥
-      never n some e = some (sym e ∙ z)
+  -- ---- loaded
+  module _ (version : ℕ) (m : Machine) where
+    -- a refused load leaves the machine as it was
+    pub loaded-refused : (loadRefusal table bytes ≡ 0 → ⊥) → loaded version table m bytes ≡ m
+    unfolding loaded
+    loaded-refused stands = cond-false _ _ _ (ne-eqb (loadRefusal table bytes) 0 stands)
+
+    pub loaded-accepted : loadRefusal table bytes ≡ 0 → loaded version table m bytes ≡ resumed version table bytes
+    unfolding loaded
+    loaded-accepted z = cond-true _ _ _ (eq-eqb (loadRefusal table bytes) 0 z)
+
+-- with the built-in table the image alone can be refused
+pub loadRefusal-builtIn : (bytes : List ℕ) → loadRefusal builtIn bytes ≡ imageRefusal bytes
+loadRefusal-builtIn bytes =
+    split (eqb (imageRefusal bytes) 0)
+    (λ e. let z = eqb-true (imageRefusal bytes) 0 e in loadRefusal-table builtIn bytes z ∙ builtIn-passes ∙ sym z)
+    (λ e. loadRefusal-image builtIn bytes (eqb-false (imageRefusal bytes) 0 e))

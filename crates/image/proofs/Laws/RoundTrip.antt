@@ -1,267 +1,205 @@
--- Saving and loading undo each other: specs/Restored of the image of every machine that keeps the body rules and has the ordinary settings,
--- wherever it stands, and of every image that a load accepts. Assumes nothing.
+-- Saving and loading undo each other: specs/Restored of the image of every machine that keeps the body rules, wherever it stands, and of every image
+-- of either edition that a load accepts. Assumes nothing.
 use mathlib.Core.Path.{_≡_, ap, ap₂, sym, subst, _∙_}
-use mathlib.Core.Bool.{true, false, not}
+use mathlib.Core.Bool.{true}
 use mathlib.Core.List.{List, _++_}
-use Prim.Native.Nat.{ℕ, suc, _+_, _-_, _≤_, _<_}
+use Prim.Native.Nat.{ℕ, zero, suc, _+_, _-_, _<_}
 use native.Mathlib.Omega.{arith}
-use lib.ListN.{length, getD, take, drop, length-take, length-drop}
-use lib.Seq.{take-append-seam, drop-append-seam, getD-drop}
-use lib.Dec.{eqb}
-use borrow.Author.Tests.{ne-eqb, eqb-true, eqb-false, not-true}
-use Rattle.translation.specs.Bits.{has, nibble}
-use Rattle.translation.proofs.Lists.{Below, below-take, below-drop, below-append, length-part}
-use Rattle.translation.specs.KeyTable.{builtIn, tableRefusal}
-use Rattle.translation.proofs.KeyTable.{builtIn-passes, accepted-length}
-use Rattle.machine.specs.Settings.{Settings, ordinary}
-use Rattle.machine.specs.State.{Public, Machine, fresh}
-use Rattle.machine.specs.Lines.{atMode, secondSet}
+use lib.ListN.{length}
+use lib.Seq.{take-at}
+use borrow.Author.Tests.{eq-eqb, ne-eqb}
+use Rattle.translation.specs.KeyTable.{tableRefusal}
+use Rattle.translation.proofs.KeyTable.{accepted-length}
+use Rattle.translation.proofs.Tests.{cond-true, cond-false}
+use Rattle.translation.proofs.Lists.{Below, below-take, below-drop, below-append}
+use Rattle.machine.specs.State.{Machine}
 use Rattle.machine.specs.Kept.{Kept}
-use Rattle.state.specs.View.{stateLength, body, beyond, stateOf, at, view, IsState}
-use Rattle.state.proofs.Laws.Flags.{flags-full, flags-mouse, flags-locked, flags-below}
-use Rattle.machine.proofs.Laws.Bits.{latches-below, overlay-below, eqb-nibble}
-use Rattle.state.proofs.Laws.Code.{code-long, code-byte}
-use Rattle.state.proofs.Laws.View.{ram-of}
-use Rattle.machine.proofs.Laws.Settings.{fresh-settings}
-use Rattle.machine.proofs.Laws.Cond.{not-both}
-use Rattle.machine.proofs.Laws.Kept.{ordinary-kept}
-use Rattle.state.proofs.Laws.Body.{beyond-same, beyond-below, tidied, length-extended, take-extended, table-extended, byte-extended, tidied-extended}
-use Rattle.state.proofs.Laws.Body.{length-body, code-part, ram-part, view-state, Tidy, tidy-state, body-front}
+use Rattle.state.specs.View.{stateLength, body, given, stateOf, view, IsState}
+use Rattle.state.proofs.Laws.Body.{length-body, view-state, tidy-state, body-front}
 use Rattle.image_bytes.specs.Layout.{bodyLength, imageLength, sealed}
-use Rattle.image_bytes.specs.Find.{lastBytes, ends, found}
-use Rattle.image_bytes.specs.Rules.{every, isZero, nonzero, bodyKept}
+use Rattle.image_bytes.specs.Find.{lastBytes, bodySize, found}
 use Rattle.image_bytes.proofs.Laws.Layout.{length-sealed}
-use Rattle.image_bytes.proofs.Laws.Rules.{Rules, every-at, every-all, every-zeros, bodyKept-rules, rules-bodyKept, bodyKept-front}
-use Rattle.image_bytes.proofs.Laws.Find.{ends-sealed, sealed-ends, found-body, length-found}
+use Rattle.image_bytes.proofs.Laws.Find.{sealed-2, by-size, found-sized, length-found}
 use Rattle.image_bytes.proofs.Laws.Trailer.{lastBytes-append, bodyOf-sealed, sealed-trailer, lastBytes-sealed}
+use Rattle.body_rules.specs.Rules.{bodyKept}
+use Rattle.body_rules.proofs.Laws.Rules.{Rules, bodyKept-rules, rules-bodyKept, bodyKept-front}
+use Rattle.editions.specs.Read.{plainBytes, completed}
+use Rattle.editions.specs.Moves.{forward}
+use Rattle.editions.proofs.Laws.Read.{completed-2, imageRefusal-kept, accepted-kept, length-completed}
 use Rattle.image.specs.Image.{image}
-use Rattle.image.specs.Load.{loadRefusal, stateFrom, resumed}
-use Rattle.image.specs.Restored.{Restored}
-use Rattle.image.proofs.Laws.Load.{loaded-accepted, loadRefusal-kept, accepted}
+use Rattle.image.specs.Load.{loadRefusal, stateFrom, resumed, loaded}
+use Rattle.image.specs.Restored.{renewed, Restored, Exact}
+use Rattle.image.proofs.Laws.Load.{length-given, version-given, table-given, loadRefusal-table, accepted, loaded-accepted}
+use Rattle.image.proofs.Laws.Rules.{rules-tidy, view-kept, state-rules}
 
--- ---- the machine of a state that keeps the rules
-module _ (s : List ℕ) (long : length s ≡ stateLength) (r : Rules s) (beyond : (k : ℕ) → tidied k (at s (60 + k)) ≡ at s (60 + k)) where
-  abbrev code : List ℕ
-  code = take 16 (drop 12 s)
+-- ---- renewed
+renewed-2 : (bytes : List ℕ) → bodySize bytes ≡ bodyLength → renewed bytes ≡ lastBytes imageLength bytes
+unfolding renewed
+renewed-2 bytes two = cond-true _ _ _ (eq-eqb (bodySize bytes) bodyLength two)
 
-  -- what stands for nothing in it is 0
-  rules-tidy : Tidy s
-  rules-tidy =
-      record {
-        long = long;
-        flags = r .flags;
-        latches = r .latches;
-        overlay = omega (arith, r .overlay);
-        size = omega (arith, r .count);
-        rest = λ k low high.
-            let past : at s 10 + (k - at s 10) ≡ k = omega arith in
-            let shown : k - at s 10 < length (drop (at s 10) code) = omega (arith, length-drop (at s 10) code, code-long s long) in
-            code-byte s k high
-            ∙ ap (λ (j : ℕ). getD code j 0) (sym past)
-            ∙ sym (getD-drop (at s 10) code (k - at s 10) 0)
-            ∙ eqb-true _ 0 (every-at isZero (drop (at s 10) code) (r .after) (k - at s 10) shown);
-        beyond = beyond;
-      }
+renewed-other : (bytes : List ℕ) → (bodySize bytes ≡ bodyLength → ⊥) → renewed bytes ≡ forward bytes
+unfolding renewed
+renewed-other bytes other = cond-false _ _ _ (ne-eqb (bodySize bytes) bodyLength other)
 
-  count-shown : length (take (at s 10) code) ≡ at s 10
-  count-shown = length-take (at s 10) code ∙ omega (arith, code-long s long, r .count)
-
-  -- what AT mode and the second command set add is fresh in it, and its table is one that a start takes
-  view-kept : Below 256 s → at s 60 ≡ 0 → at s 61 ≡ 0x3F → at s 62 ≡ 3 → at s 63 ≡ 0 → tableRefusal (drop 65 s) ≡ 0 → Kept (view s)
-  view-kept bytes options lines latches ttim passes =
-      let first : has (at s 60) 2 ≡ false = ap (λ (x : ℕ). has x 2) options in
-      record {
-        output = bytes 0;
-        source = r .source;
-        pins = bytes 2;
-        latches = λ _ _. (ap (λ (x : ℕ). has x 0) latches, ap (λ (x : ℕ). has x 1) latches);
-        p25 = λ _. ap (λ (x : ℕ). has x 3) latches;
-        firstSet = λ _. (lines, ap (λ (x : ℕ). has x 3) options);
-        inputLatches = omega (arith, lines);
-        ttim = λ _. ap (λ (x : ℕ). has x 0) ttim;
-        pending = r .pending;
-        cell = r .cell;
-        noCell = r .noCell;
-        nibble = r .nibble;
-        noNibble = λ e. r .noNibble (omega (arith, r .overlay, eqb-false (at s 6) 1 e));
-        evenNibble = λ second. not-both second first;
-        to = r .to;
-        sent = bytes 9;
-        noSent = r .noSent;
-        code = omega (arith, count-shown, r .count);
-        codeBytes = λ k h. (each k h, below k);
-        locked = λ e. let l = r .locked e in (omega (arith, count-shown, l .0), l .1, l .2);
-        unlocked = r .unlocked;
-        ram = ap suc (length-part 29 31 s (omega arith));
-        cells = subst (Below 256) (sym (ram-of s long)) (below-take 256 32 (drop 28 s) (omega arith) (below-drop 256 28 s bytes));
-        modeByte = r .mode;
-        version = bytes 64;
-        table = passes;
-        entries = below-drop 256 65 s bytes;
-      }
-    where
-      below : Below 256 (take (at s 10) code)
-      below = below-take 256 (at s 10) code (omega arith) (below-take 256 16 (drop 12 s) (omega arith) (below-drop 256 12 s bytes))
-
-      each : (k : ℕ) → k < length (take (at s 10) code) → 1 ≤ getD (take (at s 10) code) k 0
-      each k h =
-          let byte = getD (take (at s 10) code) k 0 in
-          omega (arith, eqb-false byte 0 (not-true (eqb byte 0) (every-at nonzero (take (at s 10) code) (r .code) k h)))
+-- either way it is the body that was read, with the trailer of edition 2
+renewed-sealed : (bytes : List ℕ) → Below 256 bytes → renewed bytes ≡ sealed 2 (completed (found bytes))
+unfolding forward
+renewed-sealed bytes bound =
+    by-size bytes
+    (λ e. renewed-other bytes (λ two. omega (arith, e, two)))
+    (λ e _. renewed-other bytes (λ two. omega (arith, e, two)))
+    (λ two s.
+    renewed-2 bytes two ∙ lastBytes-sealed 2 bodyLength bytes s bound
+    ∙ ap (sealed 2) (sym (found-sized bytes two) ∙ sym (completed-2 (found bytes) (length-found bytes ∙ two))))
 
 -- ---- the body of a machine that keeps the rules
 module _ (m : Machine) (k : Kept m) where
-  state-rules : Rules (stateOf m)
-  unfolding stateOf body
-  state-rules =
-      let p = m .plain in
-      let c = m .secret .code in
-      record {
-        flags = flags-below p;
-        source = λ e. flags-full p ∙ k .source (sym (flags-mouse p) ∙ e);
-        latches = latches-below (p .ports .p20) (p .ports .p21);
-        pending = k .pending;
-        cell = k .cell;
-        noCell = k .noCell;
-        overlay = overlay-below (p .host .overlay);
-        nibble = k .nibble;
-        noNibble = λ e. k .noNibble (sym (eqb-nibble (p .host .overlay)) ∙ ne-eqb (nibble (p .host .overlay) false false false) 1 (omega (arith, e)));
-        to = k .to;
-        noSent = k .noSent;
-        count = k .code;
-        code = ap (λ (l : List ℕ). every nonzero (take (length c) l)) (code-part m (k .code)) ∙ ap (every nonzero) (take-append-seam c _) ∙ nonzeros;
-        after =
-            ap (λ (l : List ℕ). every isZero (drop (length c) l)) (code-part m (k .code))
-            ∙ ap (every isZero) (drop-append-seam c _)
-            ∙ every-zeros (16 - length c);
-        locked = λ e. k .locked (sym (flags-locked p) ∙ e);
-        unlocked = λ e. k .unlocked (sym (flags-locked p) ∙ e);
-        mode = omega (arith, ap (λ (l : List ℕ). getD l 0 0) (ram-part m (k .code) (k .ram)), k .modeByte);
-      }
-    where
-      nonzeros : every nonzero (m .secret .code) ≡ true
-      nonzeros = every-all nonzero (m .secret .code) (λ j h. ap not (ne-eqb (getD (m .secret .code) j 0) 0 (omega (arith, k .codeBytes j h .0))))
+  abbrev version : ℕ
+  version = m .plain .settings .version
+
+  abbrev table : List ℕ
+  table = m .plain .settings .table
 
   body-long : length (body m) ≡ bodyLength
   body-long = length-body m (k .code) (k .ram)
 
   body-kept : bodyKept (body m) ≡ true
   unfolding stateOf
-  body-kept = sym (bodyKept-front (body m) (beyond (m .plain)) body-long) ∙ rules-bodyKept (stateOf m) state-rules
+  body-kept = sym (bodyKept-front (body m) (given version table) body-long) ∙ rules-bodyKept (stateOf m) (state-rules m k)
+
+  body-whole : completed (body m) ≡ body m
+  body-whole = completed-2 (body m) body-long
 
   pub length-image : length (image m) ≡ imageLength
   unfolding image
-  length-image = length-sealed 1 (body m) ∙ ap (λ (n : ℕ). n + 8) body-long
+  length-image = length-sealed 2 (body m) ∙ ap (λ (n : ℕ). n + 8) body-long
 
-  -- with the ordinary settings behind it, it is the state
-  resumed-body : m .plain .settings ≡ ordinary → view (stateFrom (body m)) ≡ m
+  -- with its version byte and table behind it, it is the state
+  resumed-body : view (stateFrom version table (body m)) ≡ m
   unfolding stateOf
-  resumed-body plain =
-      let started = fresh-settings ordinary in
-      ap (λ (r : List ℕ). view (body m ++ r))
-      (beyond-same (fresh ordinary) m ordinary-kept k (started ∙ sym plain) (ap (λ (x : Settings). x .atMode) started)
-      (ap (λ (x : Settings). x .secondSet) started))
-      ∙ view-state m (k .code) (k .ram)
+  resumed-body = ap (λ (b : List ℕ). view (b ++ given version table)) body-whole ∙ view-state m (k .code) (k .ram)
 
   -- ---- its image behind other bytes
   module _ (front : List ℕ) where
-    image-ends : ends 1 bodyLength (front ++ image m) ≡ true
+    image-size : bodySize (front ++ image m) ≡ bodyLength
     unfolding image
-    image-ends =
-        sealed-ends 1 bodyLength (front ++ image m) (sealed-trailer 1 bodyLength front (body m) body-long (omega arith))
+    image-size = sealed-2 (front ++ image m) (sealed-trailer 2 bodyLength front (body m) body-long (omega arith))
 
     found-image : found (front ++ image m) ≡ body m
     unfolding image
-    found-image = found-body (front ++ image m) image-ends ∙ bodyOf-sealed 1 bodyLength front (body m) body-long
+    found-image = found-sized (front ++ image m) image-size ∙ bodyOf-sealed 2 bodyLength front (body m) body-long
 
-    image-accepted : loadRefusal (front ++ image m) ≡ 0
+    image-accepted : loadRefusal table (front ++ image m) ≡ 0
     image-accepted =
-        loadRefusal-kept (front ++ image m) image-ends (ap bodyKept found-image ∙ body-kept)
+        loadRefusal-table table (front ++ image m)
+        (imageRefusal-kept (front ++ image m) (λ e. omega (arith, e, image-size)) (ap (λ (b : List ℕ). bodyKept (completed b)) found-image ∙ ap bodyKept body-whole ∙ body-kept))
+        ∙ k .table
 
-    pub image-restored : m .plain .settings ≡ ordinary → Restored m (front ++ image m)
-    image-restored plain =
+    pub image-restored : Restored m (front ++ image m)
+    image-restored =
         record {
           accepted = image-accepted;
-          body = found-image;
+          body = ap completed found-image ∙ body-whole;
           machine = λ before.
-              loaded-accepted before (front ++ image m) image-accepted ∙ ap (λ (b : List ℕ). view (stateFrom b)) found-image ∙ resumed-body plain;
+              loaded-accepted table (front ++ image m) version before image-accepted
+              ∙ ap (λ (b : List ℕ). view (stateFrom version table b)) found-image ∙ resumed-body;
           kept = k;
-          again = sym (lastBytes-append front (image m) imageLength length-image);
+          again = sym (renewed-2 (front ++ image m) image-size ∙ lastBytes-append front (image m) imageLength length-image);
         }
 
--- ---- an image that is accepted
-module _ (bytes : List ℕ) (z : loadRefusal bytes ≡ 0) where
-  found-long : length (found bytes) ≡ bodyLength
-  found-long = length-found bytes (accepted bytes z .0)
+-- ---- a body that passes the test, with a version byte and a table behind it
+below-plain : Below 256 plainBytes
+below-plain zero = omega arith
+below-plain (suc zero) = omega arith
+below-plain (suc (suc zero)) = omega arith
+below-plain (suc (suc (suc zero))) = omega arith
+below-plain (suc (suc (suc (suc k)))) = omega arith
 
-  abbrev behind : Public
-  behind = fresh ordinary .plain
+below-given : (version : ℕ) (table : List ℕ) → version < 256 → Below 256 table → Below 256 (given version table)
+below-given version table low entries zero = low
+below-given version table low entries (suc k) = entries k
 
+module _ (version : ℕ) (table : List ℕ) (low : version < 256) (entries : Below 256 table) (b : List ℕ) (long : length b ≡ bodyLength) where
   abbrev made : List ℕ
-  made = stateFrom (found bytes)
+  made = b ++ given version table
 
-  made-long : length made ≡ stateLength
-  unfolding fresh
-  made-long = length-extended (found bytes) found-long behind (accepted-length builtIn builtIn-passes)
+  module _ (kept : bodyKept b ≡ true) (passes : tableRefusal table ≡ 0) where
+    made-long : length made ≡ stateLength
+    made-long = length-given b long version table (accepted-length table passes)
 
-  made-beyond : (k : ℕ) → tidied k (at made (60 + k)) ≡ at made (60 + k)
-  made-beyond = tidied-extended (found bytes) found-long behind
+    made-rules : Rules made
+    made-rules = bodyKept-rules made (bodyKept-front b (given version table) long ∙ kept)
 
-  made-options : at made 60 ≡ 0
-  unfolding fresh nibble
-  made-options = byte-extended (found bytes) found-long behind 0
+    made-state : IsState made
+    made-state = tidy-state made (rules-tidy made made-long made-rules)
 
-  made-lines : at made 61 ≡ 0x3F
-  unfolding fresh nibble
-  made-lines = byte-extended (found bytes) found-long behind 1
+    made-body : b ≡ body (view made)
+    made-body = sym (take-at b (given version table) 64 long) ∙ body-front made made-long made-state
 
-  made-latches : at made 62 ≡ 3
-  unfolding fresh nibble
-  made-latches = byte-extended (found bytes) found-long behind 2
+    made-kept : Below 256 b → Kept (view made)
+    made-kept bound =
+        view-kept made made-long made-rules (below-append 256 b (given version table) bound (below-given version table low entries))
+        (ap tableRefusal (table-given b long version table) ∙ passes)
 
-  made-ttim : at made 63 ≡ 0
-  unfolding fresh nibble
-  made-ttim = byte-extended (found bytes) found-long behind 3
-
-  made-table : tableRefusal (drop 65 made) ≡ 0
-  unfolding fresh
-  made-table = ap tableRefusal (table-extended (found bytes) found-long behind) ∙ builtIn-passes
-
-  made-rules : Rules made
-  made-rules = bodyKept-rules made (bodyKept-front (found bytes) (beyond behind) found-long ∙ accepted bytes z .1)
-
-  -- the state that it makes is that of its machine
-  pub found-isState : IsState made
-  found-isState = tidy-state made (rules-tidy made made-long made-rules made-beyond)
-
-  found-body-of : found bytes ≡ body (resumed bytes)
-  found-body-of = sym (take-extended (found bytes) found-long behind) ∙ body-front made made-long found-isState
-
-  made-below : Below 256 bytes → Below 256 made
-  made-below bound =
-      let inside : Below 256 (found bytes) =
-      subst (Below 256) (sym (found-body bytes (accepted bytes z .0)))
-      (below-take 256 bodyLength (lastBytes imageLength bytes) (omega arith) (below-drop 256 (length bytes - 68) bytes bound)) in
-      below-append 256 (found bytes) (beyond behind) inside (beyond-below (fresh ordinary) ordinary-kept)
-
-  pub accepted-restored : Below 256 bytes → Restored (resumed bytes) bytes
-  unfolding image
-  accepted-restored bound =
-      let ended = accepted bytes z .0 in
+  -- the test is exact
+  pub exact : Below 256 b → Exact version table b
+  unfolding stateOf
+  exact bound =
       record {
-        accepted = z;
-        body = found-body-of;
-        machine = λ before. loaded-accepted before bytes z;
-        kept = view-kept made made-long made-rules made-beyond (made-below bound) made-options made-lines made-latches made-ttim made-table;
-        again =
-            ap (sealed 1) (sym found-body-of ∙ found-body bytes ended)
-            ∙ sym (lastBytes-sealed 1 bodyLength bytes (ends-sealed 1 bodyLength bytes ended) bound);
+        sound = λ kept passes. (made-state kept passes, made-kept kept passes bound);
+        complete = λ isState k.
+            let rules : Rules made = subst Rules (sym isState) (state-rules (view made) k) in (
+              sym (bodyKept-front b (given version table) long) ∙ rules-bodyKept made rules,
+              sym (ap tableRefusal (table-given b long version table)) ∙ k .table,
+            );
       }
 
--- ---- one machine for a body and the settings, in PS/2 mode with the first command set
-pub body-injective : (m n : Machine) → Kept m → Kept n → m .plain .settings ≡ n .plain .settings → atMode (m .plain) ≡ false → secondSet (m .plain) ≡ false →
-    body m ≡ body n → m ≡ n
+-- ---- an image that is accepted
+module _ (version : ℕ) (table : List ℕ) (low : version < 256) (entries : Below 256 table) (bytes : List ℕ) (z : loadRefusal table bytes ≡ 0) where
+  abbrev read : List ℕ
+  read = completed (found bytes)
+
+  read-long : length read ≡ bodyLength
+  read-long = length-completed bytes (accepted table bytes z .0)
+
+  read-kept : bodyKept read ≡ true
+  read-kept = accepted-kept bytes (accepted table bytes z .0)
+
+  -- the state that it makes is that of its machine
+  pub found-isState : IsState (stateFrom version table (found bytes))
+  found-isState = made-state version table low entries read read-long read-kept (accepted table bytes z .1)
+
+  read-below : Below 256 bytes → Below 256 read
+  unfolding completed found
+  read-below bound =
+      let n = bodySize bytes in
+      let part : Below 256 (found bytes) = below-take 256 n (lastBytes (n + 8) bytes) (omega arith) (below-drop 256 (length bytes - (n + 8)) bytes bound) in
+      below-take 256 bodyLength (found bytes ++ plainBytes) (omega arith) (below-append 256 (found bytes) plainBytes part below-plain)
+
+  pub accepted-restored : Below 256 bytes → Restored (resumed version table bytes) bytes
+  unfolding image
+  accepted-restored bound =
+      let passes = accepted table bytes z .1 in
+      let theirs = table-given read read-long version table in
+      let body-of = made-body version table low entries read read-long read-kept passes in
+      record {
+        accepted = ap (λ (t : List ℕ). loadRefusal t bytes) theirs ∙ z;
+        body = body-of;
+        machine = λ before.
+            ap₂ (λ (v : ℕ) (t : List ℕ). loaded v t before bytes) (version-given read read-long version table) theirs
+            ∙ loaded-accepted table bytes version before z;
+        kept = made-kept version table low entries read read-long read-kept passes (read-below bound);
+        again = ap (sealed 2) (sym body-of) ∙ sym (renewed-sealed bytes bound);
+      }
+
+-- ---- one machine for a body, a version byte and a table
+pub body-injective : (m n : Machine) → Kept m → Kept n →
+    m .plain .settings .version ≡ n .plain .settings .version →
+    m .plain .settings .table ≡ n .plain .settings .table →
+    body m ≡ body n →
+    m ≡ n
 unfolding stateOf
-body-injective m n k l same ps2 one e =
+body-injective m n k l version table e =
     sym (view-state m (k .code) (k .ram))
-    ∙ ap₂ (λ (b r : List ℕ). view (b ++ r)) e (beyond-same m n k l same ps2 one)
+    ∙ (λ i. view (e i ++ given (version i) (table i)))
     ∙ view-state n (l .code) (l .ram)

@@ -1,21 +1,20 @@
 -- Laws of the definitions in specs/Find. Assumes nothing.
-use mathlib.Core.Path.{_≡_, ap, ap₂, sym, _∙_}
+use mathlib.Core.Path.{_≡_, refl, ap, ap₂, sym, _∙_}
 use mathlib.Core.Bool.{Bool, true, false, _&&_}
-use mathlib.Core.List.{List, []}
+use mathlib.Core.List.{List}
 use Prim.Native.Nat.{ℕ, _+_, _-_, _≤_, _<_}
 use native.Mathlib.Omega.{arith}
 use native.Mathlib.Nat.{add-zero}
 use lib.ListN.{length, getD, take, drop}
 use lib.Seq.{getD-drop}
 use lib.Dec.{eqb, leb}
-use borrow.Author.Tests.{le-leb, lt-leb, eq-eqb, leb-true, eqb-true}
+use borrow.Author.Tests.{le-leb, lt-leb, eq-eqb, ne-eqb, leb-true, eqb-true, eqb-false}
 use Rattle.translation.specs.Bits.{word}
 use Rattle.image_bytes.specs.Sum.{wordSum}
-use Rattle.image_bytes.specs.Layout.{bodyLength, imageLength}
-use Rattle.image_bytes.specs.Find.{trailerOf, bodyOf, distanceOf, sumOf, editionOf, marked, ends, found, bodyStart, further, BodyFound}
-use Rattle.translation.proofs.Tests.{split, and-true}
+use Rattle.image_bytes.specs.Layout.{firstLength, bodyLength}
+use Rattle.image_bytes.specs.Find.{trailerOf, bodyOf, distanceOf, sumOf, editionOf, marked, ends, bodySize, found, bodyStart, further, BodyFound}
+use Rattle.translation.proofs.Tests.{split, and-true, and-passed, and-failed, and-both, cond-true, cond-false}
 use Rattle.translation.proofs.Lists.{length-part}
-use Rattle.image_bytes.proofs.Laws.Tests.{and-passed, and-failed, and-both, cond-true, cond-false}
 
 -- ---- trailerOf, bodyOf
 pub at-trailer : (bytes : List ℕ) (k : ℕ) → getD (trailerOf bytes) k 0 ≡ getD bytes (length bytes - 8 + k) 0
@@ -89,62 +88,111 @@ module _ (edition n : ℕ) (bytes : List ℕ) where
   pub sealed-distance : Sealed edition n bytes → word (getD bytes (length bytes - 8) 0) (getD bytes (length bytes - 8 + 1) 0) ≡ n
   sealed-distance s = sym (ap₂ word (at-trailer-first bytes) (at-trailer bytes 1)) ∙ s .distance
 
+-- ---- bodySize
+-- an image of either edition
+pub record Image (bytes : List ℕ) : Type 0 where
+  pub edition : ℕ
+  pub size : ℕ
+  pub counted : bodySize bytes ≡ size
+  pub parts : Sealed edition size bytes
+  pub least : firstLength ≤ size
+  pub most : size ≤ bodyLength
+
+module _ (bytes : List ℕ) where
+  pub bodySize-none : ends 1 firstLength bytes ≡ false → ends 2 bodyLength bytes ≡ false → bodySize bytes ≡ 0
+  unfolding bodySize
+  bodySize-none e f = cond-false _ _ _ e ∙ cond-false _ _ _ f
+
+  pub bodySize-1 : ends 1 firstLength bytes ≡ true → bodySize bytes ≡ firstLength
+  unfolding bodySize
+  bodySize-1 e = cond-true _ _ _ e
+
+  pub bodySize-2 : ends 1 firstLength bytes ≡ false → ends 2 bodyLength bytes ≡ true → bodySize bytes ≡ bodyLength
+  unfolding bodySize
+  bodySize-2 e f = cond-false _ _ _ e ∙ cond-true _ _ _ f
+
+  -- a trailer names one edition
+  pub sealed-1 : Sealed 1 firstLength bytes → bodySize bytes ≡ firstLength
+  sealed-1 s = bodySize-1 (sealed-ends 1 firstLength bytes s)
+
+  pub sealed-2 : Sealed 2 bodyLength bytes → bodySize bytes ≡ bodyLength
+  sealed-2 s =
+      split (ends 1 firstLength bytes)
+      (λ e. absurd (omega (arith, s .number, ends-sealed 1 firstLength bytes e .number)))
+      (λ e. bodySize-2 e (sealed-ends 2 bodyLength bytes s))
+
+  -- and the other way round
+  module _ {A : Type 0} (none : bodySize bytes ≡ 0 → A) (one : bodySize bytes ≡ firstLength → Sealed 1 firstLength bytes → A)
+      (two : bodySize bytes ≡ bodyLength → Sealed 2 bodyLength bytes → A) where
+    pub by-size : A
+    by-size =
+        split (ends 1 firstLength bytes)
+        (λ e. one (bodySize-1 e) (ends-sealed 1 firstLength bytes e))
+        (λ e. split (ends 2 bodyLength bytes)
+        (λ f. two (bodySize-2 e f) (ends-sealed 2 bodyLength bytes f))
+        (λ f. none (bodySize-none e f)))
+
+  pub size-1 : bodySize bytes ≡ firstLength → Sealed 1 firstLength bytes
+  size-1 e = by-size (λ z. absurd (omega arith)) (λ _ s. s) (λ z _. absurd (omega arith))
+
+  pub size-2 : bodySize bytes ≡ bodyLength → Sealed 2 bodyLength bytes
+  size-2 e = by-size (λ z. absurd (omega arith)) (λ z _. absurd (omega arith)) (λ _ s. s)
+
+  pub image-of : (bodySize bytes ≡ 0 → ⊥) → Image bytes
+  image-of some =
+      by-size
+      (λ z. absurd (some z))
+      (λ e s. record { edition = 1; size = firstLength; counted = e; parts = s; least = omega arith; most = omega arith })
+      (λ e s. record { edition = 2; size = bodyLength; counted = e; parts = s; least = omega arith; most = omega arith })
+
+  pub bodySize-most : bodySize bytes ≤ bodyLength
+  bodySize-most = by-size (λ e. omega arith) (λ e _. omega arith) (λ e _. omega arith)
+
 -- ---- found
-pub found-none : (bytes : List ℕ) → ends 1 bodyLength bytes ≡ false → found bytes ≡ []
+pub found-sized : (bytes : List ℕ) {n : ℕ} → bodySize bytes ≡ n → found bytes ≡ bodyOf n bytes
 unfolding found
-found-none bytes e = cond-false _ _ _ e
+found-sized bytes e = ap (λ (k : ℕ). bodyOf k bytes) e
 
-pub found-body : (bytes : List ℕ) → ends 1 bodyLength bytes ≡ true → found bytes ≡ bodyOf bodyLength bytes
-unfolding found
-found-body bytes e = cond-true _ _ _ e
-
-pub length-found : (bytes : List ℕ) → ends 1 bodyLength bytes ≡ true → length (found bytes) ≡ bodyLength
-length-found bytes e = ap length (found-body bytes e) ∙ length-bodyOf bodyLength bytes (ends-sealed 1 bodyLength bytes e .room)
-
--- the bytes that were found, b: there are some exactly where check 10 is passed
-module _ (bytes : List ℕ) {b : List ℕ} (here : b ≡ found bytes) where
-  pub none-ends : length b ≡ 0 → ends 1 bodyLength bytes ≡ false
-  none-ends none =
-      split (ends 1 bodyLength bytes)
-      (λ e. absurd (omega (arith, none, ap length here, length-found bytes e)))
-      (λ e. e)
-
-  module _ (some : length b ≡ 0 → ⊥) where
-    pub some-ends : ends 1 bodyLength bytes ≡ true
-    some-ends = split (ends 1 bodyLength bytes) (λ e. e) (λ e. absurd (some (ap length (here ∙ found-none bytes e))))
-
-    pub some-long : length b ≡ bodyLength
-    some-long = ap length here ∙ length-found bytes some-ends
+pub length-found : (bytes : List ℕ) → length (found bytes) ≡ bodySize bytes
+length-found bytes =
+    split (eqb (bodySize bytes) 0)
+    (λ e. let none = eqb-true (bodySize bytes) 0 e in ap length (found-sized bytes none) ∙ sym none)
+    (λ e.
+    let i = image-of bytes (eqb-false (bodySize bytes) 0 e) in
+    ap length (found-sized bytes (i .counted)) ∙ length-bodyOf (i .size) bytes (i .parts .room) ∙ sym (i .counted))
 
 -- ---- bodyStart
-pub bodyStart-none : (bytes : List ℕ) → ends 1 bodyLength bytes ≡ false → bodyStart bytes ≡ length bytes
+pub bodyStart-none : (bytes : List ℕ) → bodySize bytes ≡ 0 → bodyStart bytes ≡ length bytes
 unfolding bodyStart
-bodyStart-none bytes e = cond-false _ _ _ e
+bodyStart-none bytes e = cond-true _ _ _ (eq-eqb (bodySize bytes) 0 e)
 
-pub bodyStart-body : (bytes : List ℕ) → ends 1 bodyLength bytes ≡ true → bodyStart bytes ≡ length bytes - imageLength
+bodyStart-some : (bytes : List ℕ) → (bodySize bytes ≡ 0 → ⊥) → bodyStart bytes ≡ length bytes - (bodySize bytes + 8)
 unfolding bodyStart
-bodyStart-body bytes e = cond-true _ _ _ e
+bodyStart-some bytes some = cond-false _ _ _ (ne-eqb (bodySize bytes) 0 some)
 
 -- the trailer points back to it
-pub bodyStart-pointed : (bytes : List ℕ) {distance : ℕ} → Sealed 1 bodyLength bytes → distance ≡ bodyLength →
-    bodyStart bytes ≡ length bytes - 8 - distance
-bodyStart-pointed bytes s back = bodyStart-body bytes (sealed-ends 1 bodyLength bytes s) ∙ omega (arith, back)
+pub bodyStart-pointed : (bytes : List ℕ) (i : Image bytes) {distance : ℕ} → distance ≡ i .size → bodyStart bytes ≡ length bytes - 8 - distance
+bodyStart-pointed bytes i back =
+    bodyStart-some bytes (λ z. omega (arith, z, i .counted, i .least)) ∙ omega (arith, back, i .counted)
 
 -- a start that was found: the length exactly where check 10 refuses the bytes
 module _ (bytes : List ℕ) {start : ℕ} (here : start ≡ bodyStart bytes) where
-  module _ (past : start ≡ length bytes) where
-    pub past-ends : ends 1 bodyLength bytes ≡ false
-    past-ends =
-        split (ends 1 bodyLength bytes)
-        (λ e. absurd (omega (arith, past, here, bodyStart-body bytes e, ends-sealed 1 bodyLength bytes e .room)))
-        (λ e. e)
+  pub past-none : start ≡ length bytes → bodySize bytes ≡ 0
+  past-none past =
+      split (eqb (bodySize bytes) 0) (λ e. eqb-true _ 0 e)
+      (λ e.
+      let some = eqb-false (bodySize bytes) 0 e in
+      let i = image-of bytes some in
+      absurd (omega (arith, past, here, bodyStart-some bytes some, i .counted, i .least, i .parts .room)))
 
   module _ (before : start ≡ length bytes → ⊥) where
-    start-ends : ends 1 bodyLength bytes ≡ true
-    start-ends = split (ends 1 bodyLength bytes) (λ e. e) (λ e. absurd (before (here ∙ bodyStart-none bytes e)))
+    start-some : bodySize bytes ≡ 0 → ⊥
+    start-some none = before (here ∙ bodyStart-none bytes none)
 
-    pub start-room : (start ≡ length bytes - imageLength) × (imageLength ≤ length bytes)
-    start-room = (here ∙ bodyStart-body bytes start-ends, ends-sealed 1 bodyLength bytes start-ends .room)
+    pub start-room : (start ≡ length bytes - 8 - bodySize bytes) × (bodySize bytes + 8 ≤ length bytes)
+    start-room =
+        let i = image-of bytes start-some in
+        (here ∙ bodyStart-some bytes start-some ∙ omega arith, omega (arith, i .counted, i .parts .room))
 
 -- ---- BodyFound, with the place of the part as the rule of a part gives it
 module _ {bytes : List ℕ} {lent : ℕ × ℕ} {start : ℕ} (here : start ≡ bodyStart bytes) where
@@ -153,18 +201,17 @@ module _ {bytes : List ℕ} {lent : ℕ × ℕ} {start : ℕ} (here : start ≡ 
   found-nowhere past at =
       let none : length bytes - start ≡ 0 = omega arith in
       record {
-        contents = ap (λ (k : ℕ). take k (drop start bytes)) none ∙ sym (found-none bytes (past-ends bytes here past));
+        contents = ap (λ (k : ℕ). take k (drop start bytes)) none ∙ sym (found-sized bytes (past-none bytes here past));
         start = at ∙ ap (further lent) here;
       }
 
   pub found-there : {place : ℕ × ℕ} → (start ≡ length bytes → ⊥) → place ≡ further lent start →
       BodyFound bytes lent (take (length bytes - 8 - start) (drop start bytes)) place
   found-there before at =
-      let e = start-ends bytes here before in
-      let back : start ≡ length bytes - 8 - bodyLength = start-room bytes here before .0 ∙ omega arith in
+      let (back, enough) = start-room bytes here before in
       record {
         contents =
             ap (λ (k : ℕ). take (length bytes - 8 - k) (drop k bytes)) back
-            ∙ bodyOf-part bodyLength bytes (ends-sealed 1 bodyLength bytes e .room) ∙ sym (found-body bytes e);
+            ∙ bodyOf-part (bodySize bytes) bytes enough ∙ sym (found-sized bytes refl);
         start = at ∙ ap (further lent) here;
       }

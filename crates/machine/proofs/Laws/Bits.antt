@@ -138,5 +138,9 @@ module _ (a b c d : Bool) where
   pub nibble-again : let n = nibble a b c d in nibble (has n 0) (has n 1) (has n 2) (has n 3) ≡ n
   nibble-again = λ i. nibble (nibble-0 i) (nibble-1 i) (nibble-2 i) (nibble-3 i)
 
+-- and those of a number below 16 the number
+pub nibble-byte : (x : ℕ) → x < 16 → nibble (has x 0) (has x 1) (has x 2) (has x 3) ≡ x
+nibble-byte x h = omega (arith, flags-byte x (omega arith))
+
 pub highLatches-again : (a b d : Bool) → let n = nibble a b false d in nibble (has n 0) (has n 1) false (has n 3) ≡ n
 highLatches-again a b d = λ i. nibble (nibble-0 a b false d i) (nibble-1 a b false d i) false (nibble-3 a b false d i)

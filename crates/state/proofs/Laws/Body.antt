@@ -9,11 +9,9 @@ use lib.Seq.{take-at, drop-at, take-all, drop-drop, take-append-seam, drop-appen
 use Rattle.translation.specs.Bits.{has, nibble}
 use Rattle.machine.specs.Settings.{Settings, settingsOf}
 use Rattle.machine.specs.State.{Public, Machine, fresh}
-use Rattle.machine.specs.Lines.{atMode, secondSet}
-use Rattle.machine.specs.Kept.{Kept}
-use Rattle.state.specs.View.{stateLength, head, padded, body, optionsOf, highLatches, beyond, stateOf, at, view, IsState}
-use Rattle.machine.proofs.Laws.Bounds.{getD-zeros, nibble-below}
-use Rattle.translation.proofs.Lists.{listed, take-listed, length-part, Below}
+use Rattle.state.specs.View.{stateLength, head, padded, optionsOf, highLatches, added, body, given, stateOf, at, view, IsState}
+use Rattle.machine.proofs.Laws.Bounds.{getD-zeros}
+use Rattle.translation.proofs.Lists.{listed, take-listed, length-part}
 use Rattle.state.proofs.Laws.Flags.{flags-full, flags-mouse, flags-command, flags-terr, flags-perr, flags-breaks, flags-locked, flags-below}
 use Rattle.machine.proofs.Laws.Bits.{flags-byte, nibble-0, nibble-1, nibble-2, nibble-3, latches-below, latches-byte}
 use Rattle.machine.proofs.Laws.Bits.{nibble-again, highLatches-again}
@@ -36,39 +34,9 @@ settings-options x b =
     let c = x .secondSet in
     λ i. record { mouseLock = nibble-0 a m c b i; atMode = nibble-1 a m c b i; secondSet = nibble-2 a m c b i; version = x .version; table = x .table }
 
--- ---- beyond
--- in PS/2 mode with the first command set it goes by the settings alone
-abbrev plainBeyond : Settings → List ℕ
-plainBeyond x = optionsOf x false ∷ 0x3F ∷ 3 ∷ 0 ∷ x .version ∷ x .table
-
-beyond-plain : (m : Machine) → Kept m → atMode (m .plain) ≡ false → secondSet (m .plain) ≡ false → beyond (m .plain) ≡ plainBeyond (m .plain .settings)
-unfolding nibble
-beyond-plain m k ps2 one =
-    let (p22, p23) = k .latches one ps2 in
-    let (lines, forbidden) = k .firstSet one in
-    λ i.
-    optionsOf (m .plain .settings) (forbidden i)
-    ∷ lines i
-    ∷ nibble (p22 i) (p23 i) false (k .p25 ps2 i)
-    ∷ nibble (k .ttim ps2 i) false false false
-    ∷ m .plain .settings .version
-    ∷ m .plain .settings .table
-
-pub beyond-same : (m n : Machine) → Kept m → Kept n → m .plain .settings ≡ n .plain .settings → atMode (m .plain) ≡ false → secondSet (m .plain) ≡ false →
-    beyond (m .plain) ≡ beyond (n .plain)
-beyond-same m n k l same ps2 one =
-    beyond-plain m k ps2 one ∙ ap plainBeyond same
-    ∙ sym (beyond-plain n l (sym (ap (λ (x : Settings). x .atMode) same) ∙ ps2) (sym (ap (λ (x : Settings). x .secondSet) same) ∙ one))
-
-pub beyond-below : (m : Machine) → Kept m → Below 256 (beyond (m .plain))
-beyond-below m k zero =
-    let x = m .plain .settings in
-    omega (arith, nibble-below (x .mouseLock) (x .atMode) (x .secondSet) (m .plain .ports .highAllowed))
-beyond-below m k (suc zero) = omega (arith, k .inputLatches)
-beyond-below m k (suc (suc zero)) = let q = m .plain .ports in omega (arith, nibble-below (q .p22) (q .p23) false (q .p25))
-beyond-below m k (suc (suc (suc zero))) = omega (arith, nibble-below (m .plain .errors .ttim) false false false)
-beyond-below m k (suc (suc (suc (suc zero)))) = k .version
-beyond-below m k (suc (suc (suc (suc (suc j))))) = k .entries j
+-- ---- behind the RAM
+abbrev beyond : Public → List ℕ
+beyond p = added p ++ given (p .settings .version) (p .settings .table)
 
 -- byte 60 + k with what stands for nothing in it 0
 abbrev pub tidied : ℕ → ℕ → ℕ
@@ -85,69 +53,74 @@ tidied-beyond p (suc (suc zero)) = highLatches-again (p .ports .p22) (p .ports .
 tidied-beyond p (suc (suc (suc zero))) = ap (λ (b : Bool). nibble b false false false) (nibble-0 (p .errors .ttim) false false false)
 tidied-beyond p (suc (suc (suc (suc k)))) = refl
 
--- a body with it behind
+-- with sixty bytes in front
 module _ (b : List ℕ) (long : length b ≡ 60) (p : Public) where
-  pub length-extended : length (p .settings .table) ≡ 256 → length (b ++ beyond p) ≡ stateLength
+  length-extended : length (p .settings .table) ≡ 256 → length (b ++ beyond p) ≡ stateLength
   length-extended whole = length-append b (beyond p) ∙ omega arith
-
-  pub take-extended : take 60 (b ++ beyond p) ≡ b
-  take-extended = take-at b (beyond p) 60 long
 
   drop-extended : drop 60 (b ++ beyond p) ≡ beyond p
   drop-extended = drop-at b (beyond p) 60 long
 
-  pub table-extended : drop 65 (b ++ beyond p) ≡ p .settings .table
+  table-extended : drop 65 (b ++ beyond p) ≡ p .settings .table
   table-extended = sym (drop-drop 5 60 (b ++ beyond p)) ∙ ap (drop 5) drop-extended
 
-  pub byte-extended : (k : ℕ) → at (b ++ beyond p) (60 + k) ≡ getD (beyond p) k 0
+  byte-extended : (k : ℕ) → at (b ++ beyond p) (60 + k) ≡ getD (beyond p) k 0
   byte-extended k = sym (getD-drop 60 (b ++ beyond p) k 0) ∙ ap (λ (l : List ℕ). getD l k 0) drop-extended
 
-  pub tidied-extended : (k : ℕ) → tidied k (at (b ++ beyond p) (60 + k)) ≡ at (b ++ beyond p) (60 + k)
+  tidied-extended : (k : ℕ) → tidied k (at (b ++ beyond p) (60 + k)) ≡ at (b ++ beyond p) (60 + k)
   tidied-extended k = ap (tidied k) (byte-extended k) ∙ tidied-beyond p k ∙ sym (byte-extended k)
 
 -- ---- the parts of a state
+-- the bytes up to the RAM's end
+abbrev sixty : Machine → List ℕ
+sixty m = head m ++ padded (m .secret .code) ++ m .plain .ram
+
+state-parts : (m : Machine) → stateOf m ≡ sixty m ++ beyond (m .plain)
+unfolding stateOf body
+state-parts m = append-assoc (sixty m) (added (m .plain)) _
+
 module _ (m : Machine) (short : length (m .secret .code) ≤ 16) where
   abbrev code-bytes : List ℕ
   code-bytes = padded (m .secret .code)
 
+  behind-head : drop 12 (stateOf m) ≡ code-bytes ++ (m .plain .ram ++ beyond (m .plain))
+  behind-head = ap (drop 12) (state-parts m) ∙ append-assoc code-bytes (m .plain .ram) (beyond (m .plain))
+
   pub code-part : take 16 (drop 12 (stateOf m)) ≡ padded (m .secret .code)
-  unfolding stateOf body
   code-part =
-      ap (take 16) (append-assoc code-bytes (m .plain .ram) (beyond (m .plain)))
-      ∙ take-at code-bytes (m .plain .ram ++ beyond (m .plain)) 16 (length-padded (m .secret .code) short)
+      ap (take 16) behind-head ∙ take-at code-bytes (m .plain .ram ++ beyond (m .plain)) 16 (length-padded (m .secret .code) short)
 
   drop-28 : drop 28 (stateOf m) ≡ m .plain .ram ++ beyond (m .plain)
-  unfolding stateOf body
   drop-28 =
-      ap (drop 16) (append-assoc code-bytes (m .plain .ram) (beyond (m .plain)))
+      sym (drop-drop 16 12 (stateOf m))
+      ∙ ap (drop 16) behind-head
       ∙ drop-at code-bytes (m .plain .ram ++ beyond (m .plain)) 16 (length-padded (m .secret .code) short)
 
   module _ (cells : length (m .plain .ram) ≡ 32) where
-    pub length-body : length (body m) ≡ 60
-    unfolding body
-    length-body =
+    length-sixty : length (sixty m) ≡ 60
+    length-sixty =
         omega (arith, length-append (head m ++ code-bytes) (m .plain .ram), length-append (head m) code-bytes, length-padded (m .secret .code) short)
 
+    pub length-body : length (body m) ≡ 64
+    unfolding body
+    length-body = omega (arith, length-append (sixty m) (added (m .plain)), length-sixty)
+
     length-state : length (m .plain .settings .table) ≡ 256 → length (stateOf m) ≡ stateLength
-    unfolding stateOf
-    length-state = length-extended (body m) length-body (m .plain)
+    length-state whole = ap length (state-parts m) ∙ length-extended (sixty m) length-sixty (m .plain) whole
 
     some-state : 60 ≤ length (stateOf m)
-    unfolding stateOf
-    some-state = omega (arith, length-append (body m) (beyond (m .plain)), length-body)
+    some-state = omega (arith, ap length (state-parts m), length-append (sixty m) (beyond (m .plain)), length-sixty)
 
     -- an image's body is the front of it
-    take-body : take 60 (stateOf m) ≡ body m
+    take-body : take 64 (stateOf m) ≡ body m
     unfolding stateOf
-    take-body = take-extended (body m) length-body (m .plain)
-
-    pub drop-body : drop 60 (stateOf m) ≡ beyond (m .plain)
-    unfolding stateOf
-    drop-body = drop-extended (body m) length-body (m .plain)
+    take-body = take-at (body m) _ 64 length-body
 
     table-part : drop 65 (stateOf m) ≡ m .plain .settings .table
-    unfolding stateOf
-    table-part = table-extended (body m) length-body (m .plain)
+    table-part = ap (drop 65) (state-parts m) ∙ table-extended (sixty m) length-sixty (m .plain)
+
+    pub byte-part : (k : ℕ) → at (stateOf m) (60 + k) ≡ getD (beyond (m .plain)) k 0
+    byte-part k = ap (λ (l : List ℕ). at l (60 + k)) (state-parts m) ∙ byte-extended (sixty m) length-sixty (m .plain) k
 
     pub ram-part : at (stateOf m) 28 ∷ take 31 (drop 29 (stateOf m)) ≡ m .plain .ram
     ram-part =
@@ -162,7 +135,7 @@ module _ (m : Machine) (short : length (m .secret .code) ≤ 16) where
         let h = p .host in
         let code : take (length (m .secret .code)) (take 16 (drop 12 (stateOf m))) ≡ m .secret .code =
         ap (take (length (m .secret .code))) code-part ∙ take-append-seam (m .secret .code) _ in
-        let behind : (k : ℕ) → at (stateOf m) (60 + k) ≡ getD (beyond p) k 0 = byte-extended (body m) length-body p in
+        let behind = byte-part in
         let q = p .ports in
         let x = p .settings in
         let settings : settingsOf (at (stateOf m) 60) (at (stateOf m) 64) (drop 65 (stateOf m)) ≡ x =
@@ -283,9 +256,8 @@ module _ (s : List ℕ) (t : Tidy s) where
       ∙ ap (λ (l : List ℕ). take (at s 10) code ++ l) (sym rest-zero)
       ∙ take-append-drop (at s 10) code
 
-  body-view : body (view s) ≡ take 60 s
-  unfolding body
-  body-view =
+  sixty-view : sixty (view s) ≡ take 60 s
+  sixty-view =
       let cells : at s 28 ∷ take 31 (drop 29 s) ≡ take 32 (drop 28 s) = ap (take 32) (sym (drop-cons s 28 0 (omega arith))) in
       ap₂ (λ (x y : List ℕ). x ++ y ++ (at s 28 ∷ take 31 (drop 29 s))) head-view padded-view
       ∙ ap (λ (x : List ℕ). (take 12 s ++ code) ++ x) cells
@@ -296,10 +268,10 @@ module _ (s : List ℕ) (t : Tidy s) where
   beyond-view = λ i. t .beyond 0 i ∷ at s 61 ∷ t .beyond 2 i ∷ t .beyond 3 i ∷ at s 64 ∷ drop 65 s
 
   pub tidy-state : IsState s
-  unfolding stateOf
   tidy-state =
       sym
-      (ap₂ (λ (x y : List ℕ). x ++ y) body-view beyond-view
+      (state-parts (view s)
+      ∙ ap₂ (λ (x y : List ℕ). x ++ y) sixty-view beyond-view
       ∙ ap₂ (λ (x y : List ℕ). take 60 s ++ (x ++ y)) (sym (take-listed 60 5 s (omega arith))) (sym (drop-drop 5 60 s))
       ∙ ap (λ (x : List ℕ). take 60 s ++ x) (take-append-drop 5 (drop 60 s))
       ∙ take-append-drop 60 s)
@@ -331,12 +303,14 @@ module _ (s : List ℕ) (long : length s ≡ stateLength) where
             ∙ sym (getD-drop (length c) (padded c) (k - length c) 0)
             ∙ ap (λ (l : List ℕ). getD l (k - length c) 0) (drop-append-seam c _)
             ∙ getD-zeros (16 - length c) (k - length c);
-        beyond = tidied-extended (body m) (length-body m short cells) (m .plain);
+        beyond = λ k.
+            subst (λ (l : List ℕ). tidied k (at l (60 + k)) ≡ at l (60 + k)) (sym (state-parts m))
+            (tidied-extended (sixty m) (length-sixty m short cells) (m .plain) k);
       }
 
   pub state-tidy : IsState s → Tidy s
   state-tidy e = subst Tidy (sym e) view-tidy
 
   -- an image's body is the front of the bytes
-  pub body-front : IsState s → take 60 s ≡ body (view s)
-  body-front e = ap (take 60) e ∙ take-body (view s) short cells
+  pub body-front : IsState s → take 64 s ≡ body (view s)
+  body-front e = ap (take 64) e ∙ take-body (view s) short cells

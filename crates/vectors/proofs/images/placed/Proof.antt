@@ -8,10 +8,10 @@ use Rattle.vectors.proofs.images.placed.Statement.{statement}
 use Rattle.vectors.proofs.images.placed.Tie as tie
 
 abbrev Inv-loop : tie.InvT-loop
-Inv-loop image bytes₀ i₀ bytes i = (i ≤ 68) × (length bytes ≡ 100)
+Inv-loop image bytes₀ i₀ bytes i = (i ≤ 72) × (length bytes ≡ 104)
 
 abbrev μ-loop : tie.MeasureT-loop
-μ-loop image bytes₀ i₀ bytes i = 68 - i
+μ-loop image bytes₀ i₀ bytes i = 72 - i
 
 loop-holds : tie.Need-loop-holds Inv-loop μ-loop
 loop-holds c = search needs

@@ -6,10 +6,10 @@ use Rattle.vectors.proofs.images.summed.Statement.{statement}
 use Rattle.vectors.proofs.images.summed.Tie as tie
 
 abbrev Inv-loop : tie.InvT-loop
-Inv-loop image total₀ i₀ total i = (i ≤ 30) × (total < 65536)
+Inv-loop image total₀ i₀ total i = (i ≤ 32) × (total < 65536)
 
 abbrev μ-loop : tie.MeasureT-loop
-μ-loop image total₀ i₀ total i = 30 - i
+μ-loop image total₀ i₀ total i = 32 - i
 
 loop-holds : tie.Need-loop-holds Inv-loop μ-loop
 loop-holds c = search needs

@@ -6,10 +6,10 @@ use Rattle.vectors.proofs.images.try_bodies.Statement.{statement}
 use Rattle.vectors.proofs.images.try_bodies.Tie as tie
 
 abbrev Inv-loop : tie.InvT-loop
-Inv-loop image i₀ i = i ≤ 43
+Inv-loop image i₀ i = i ≤ 55
 
 abbrev μ-loop : tie.MeasureT-loop
-μ-loop image i₀ i = 43 - i
+μ-loop image i₀ i = 55 - i
 
 loop-holds : tie.Need-loop-holds Inv-loop μ-loop
 loop-holds c = search needs

@@ -6,10 +6,10 @@ use Rattle.vectors.proofs.images.try_trailers.Statement.{statement}
 use Rattle.vectors.proofs.images.try_trailers.Tie as tie
 
 abbrev Inv-loop : tie.InvT-loop
-Inv-loop image i₀ i = i ≤ 68
+Inv-loop image i₀ i = i ≤ 72
 
 abbrev μ-loop : tie.MeasureT-loop
-μ-loop image i₀ i = 68 - i
+μ-loop image i₀ i = 72 - i
 
 loop-holds : tie.Need-loop-holds Inv-loop μ-loop
 loop-holds c = search needs

@@ -1,0 +1,2 @@
+-- Laws of the definitions, in files of the same names.
+pub mod Rules

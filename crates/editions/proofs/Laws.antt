@@ -1,0 +1,3 @@
+-- Laws of the definitions, in files of the same names.
+pub mod Read
+pub mod Moves
