@@ -114,7 +114,7 @@ static void turn_switch_back(struct pair *pair)
     compare(pair, "the mouse sends 08", CALUGNID_MOUSE_FRAME, calugnid_frame(0x08));
 }
 
-/* An image has no room for the setting: both are ordinary after a load. */
+/* An image holds the setting, so the loaded controller goes on with it. */
 static void save_and_load(struct pair *pair)
 {
     uint8_t image[CALUGNID_IMAGE_BYTES];
@@ -122,7 +122,7 @@ static void save_and_load(struct pair *pair)
     printf("-- the second saved and loaded, the key switch turned\n");
     if (calugnid_save(pair->locking, image, sizeof image) != CALUGNID_ACCEPTED)
         exit(1);
-    if (calugnid_load(pair->locking, image, sizeof image) != CALUGNID_ACCEPTED)
+    if (calugnid_load(pair->locking, 0, image, sizeof image) != CALUGNID_ACCEPTED)
         exit(1);
     prepare(pair, CALUGNID_PINS, SWITCH_TURNED);
     compare(pair, "the mouse sends 08", CALUGNID_MOUSE_FRAME, calugnid_frame(0x08));

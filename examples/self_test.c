@@ -29,7 +29,7 @@ int main(void)
         print_answer(answers[i]);
     if (calugnid_save(state, image, sizeof image) != CALUGNID_ACCEPTED)
         return 1;
-    if (calugnid_load(restored, image, sizeof image) != CALUGNID_ACCEPTED)
+    if (calugnid_load(restored, 0, image, sizeof image) != CALUGNID_ACCEPTED)
         return 1;
     calugnid_event(restored, CALUGNID_READ_DATA, 0, calugnid_bytes(answers));
     print_answer(answers[0]);

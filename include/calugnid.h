@@ -15,9 +15,22 @@
  * stand for (data sheet, "State and image"). If they break a body rule, these
  * need not be a controller's, and bits that stand for nothing are left open.
  *
- * The settings are chosen at the start and kept in the state. No event changes
- * them. An image of edition 1 has no room for them: a save leaves them out, and
- * a load gives the ordinary settings.
+ * The settings are the options, the version byte and the key table. They are
+ * chosen at the start and kept in the state, and no event changes them. A save
+ * writes an image of edition 2, which holds the options and what they add to
+ * the state. The version byte and the key table are in no image: a load is
+ * given them again. With those of the save the state loaded is the state saved,
+ * byte for byte. Images of edition 1, which versions 1 and 2 of this library
+ * saved, have no room for options: a load gives them none, so PS/2 mode, the
+ * first command set and no mouse lock.
+ *
+ * A caller of version 2 has to know this:
+ * - A save needs 72 bytes, CALUGNID_IMAGE_BYTES.
+ * - calugnid_load and calugnid_run_image take a version byte. Where nobody asks
+ *   for it, give 0, as version 2 did.
+ * - A load gives the options that were saved; version 2 gave none.
+ * - Images of edition 1, 68 bytes, still load, to the same state as before.
+ *   They can be moved to edition 2, and back.
  *
  * A fresh controller, as a start leaves it, is one after power-on:
  * - Both devices are off, so the first key is refused by 5. AEh switches the
@@ -40,13 +53,14 @@
  * 16 and none of them 00h, written to port 60h, then 00h. They are codes of set
  * 1: 1Eh 30h is typed with the keys A and B. A command before 00h, or a 17th
  * byte, leaves no code. A6h (CALUGNID_CMD_LOCK) then locks: until the code has
- * been typed, keys are not shown to the host and writes are refused by 4. AT
- * mode and the second command set have no lock code.
+ * been typed, keys are not shown to the host and writes are refused by 4. In AT
+ * mode and with the second command set no command loads a lock code or locks.
  *
  * What a caller owes:
  * - Pointers to valid memory of the size named, not null even where a length
  *   is 0. Bytes need no alignment; numbers of sixteen bits have that of C.
- * - No two arguments of a call overlap where one of them is written.
+ * - No two arguments of a call overlap where one of them is written. So a load
+ *   cannot be given the key table that stands in its own state: copy it first.
  * - One thread at a time for each state and each trackball.
  * - A header and an archive that belong together: calugnid_fits tells.
  * Everything else may be anything: a call that cannot do its work hands back
@@ -65,8 +79,10 @@
  *   In AT mode no frame of the mouse ever is.
  * - A device's reply does not overtake a byte that the host has not read. So a
  *   driver that waits for FAh may read a key first.
- * - A load gives the ordinary settings, and no call changes the settings of a
- *   running controller. A board that must keep its settings must not load.
+ * - A load gives the options of the image, whatever those of the state were,
+ *   and no call changes the settings of a running controller. A board that is
+ *   built for one mode asks calugnid_options after a load.
+ * - What keeps an image keeps the version byte and the key table beside it.
  * - A frame that mouse lock keeps back is lost: the refusal is 0, so the mouse
  *   does not send it again. This holds for replies of the mouse too.
  * - A frame with a wrong start bit is noise. Feed it or drop it: the event
@@ -91,7 +107,7 @@ extern "C" {
 
 /* The version of this header and of the library that belongs to it. It goes up
  * with each change of a call, a size or a rule. */
-#define CALUGNID_VERSION 2
+#define CALUGNID_VERSION 3
 
 /* On calls whose result can be a refusal: gcc and clang warn where it is not
  * looked at. */
@@ -106,7 +122,8 @@ enum {
     CALUGNID_STATE_BYTES = 321,
     CALUGNID_TABLE_BYTES = 256, /* a key table, an entry for each byte */
     CALUGNID_STATE_TABLE = 65,  /* where the key table stands in a state */
-    CALUGNID_IMAGE_BYTES = 68,
+    CALUGNID_IMAGE_BYTES = 72,  /* what a save writes: an image of edition 2 */
+    CALUGNID_EDITION_1_BYTES = 68, /* an image of edition 1 */
     CALUGNID_EVENT_BYTES = 3,   /* in a list: kind, value low, value high */
     CALUGNID_ANSWER_BYTES = 9,
     CALUGNID_LIST_MOST = 21000, /* the longest list */
@@ -116,7 +133,7 @@ enum {
 
 /* Settings: the bits of `options`. The data sheet, "Start settings", says what
  * each changes. Bits without a name here are not looked at; a caller leaves
- * them 0, since later editions of the library may use them. With the first
+ * them 0, since later versions of the library may use them. With the first
  * command set the version byte is kept in the state and never shows. */
 enum {
     CALUGNID_ORDINARY = 0,      /* none of the settings below */
@@ -211,8 +228,15 @@ enum {
     CALUGNID_MODE_TRANSLATE = 0x40     /* keys from scan code set 2 to set 1 */
 };
 
-/* Refusals: 1-6 and 12 of an event, 7-11 and 13-15 of a whole call. 12 is
- * checked straight after 2, and 13-15, in this order, before 7. */
+/* Refusals: 1-6 and 12 of an event, 7-11 and 13-16 of a whole call. The number
+ * is that of the first check that refuses, and these are the orders:
+ *   an event                           1, 2, 12, 3, 4, 5, 6
+ *   a start or a run with a key table  13, 14, 15, 7, 8
+ *   a load                             10, 11, 13, 14, 15
+ *   load, run and save in one call     7, 8, 9, 10, 11, 13, 14, 15
+ *   a move to edition 2                10, 11, 9
+ *   a move to edition 1                10, 11, 16, 9
+ * A call without a key table makes no check of 13-15. */
 enum {
     CALUGNID_ACCEPTED = 0,
     CALUGNID_BAD_KIND = 1,
@@ -223,14 +247,17 @@ enum {
     CALUGNID_NOT_SENDING = 6,   /* taken or timed out with nothing being sent */
     CALUGNID_BAD_LIST = 7,      /* length no multiple of 3, or above 21,000 */
     CALUGNID_NO_ROOM = 8,       /* under 9 answer bytes an event */
-    CALUGNID_NO_SAVE_ROOM = 9,  /* under 68 bytes to save to */
-    CALUGNID_BAD_IMAGE = 10,    /* too short, or its trailer is wrong */
+    CALUGNID_NO_SAVE_ROOM = 9,  /* under 72 bytes to save or to move to; under
+                                   68 to move to edition 1 */
+    CALUGNID_BAD_IMAGE = 10,    /* too short, or its trailer is wrong; in a
+                                   move also an image of the other edition */
     CALUGNID_BAD_BODY = 11,     /* a body rule broken */
     CALUGNID_NO_MOUSE = 12,     /* a mouse frame in AT mode */
     CALUGNID_BAD_TABLE = 13,    /* a key table whose length is not 256 */
     CALUGNID_BAD_KEYS = 14,     /* entries 01h-7Fh: not each of 01h-7Fh once */
-    CALUGNID_BAD_FIXED = 15     /* entry 00h not FFh, or E0h, E1h, EEh, F0h, FAh
+    CALUGNID_BAD_FIXED = 15,    /* entry 00h not FFh, or E0h, E1h, EEh, F0h, FAh
                                    or FEh not itself */
+    CALUGNID_NEEDS_EDITION_2 = 16 /* a move to edition 1 of one with options */
 };
 
 /* Where each of the nine answer bytes stands. Those from the status on, the
@@ -400,21 +427,28 @@ uint8_t calugnid_run_fitting(uint8_t *state,
                              uint8_t *answers, size_t answers_length,
                              size_t *count);
 
-/* Saves to the first 68 bytes. The first 60 of these are the state's, which
- * leaves its settings out and what AT mode and the second command set add. 0 or
- * 9. */
+/* Saves to the first 72 bytes, as an image of edition 2: the state's first 64
+ * bytes, which leaves its version byte and its key table out, and a trailer of
+ * 8. Bytes past the 72 stay. 0 or 9. */
 CALUGNID_WARN_UNUSED
 uint8_t calugnid_save(const uint8_t *state,
                       uint8_t *saved, size_t saved_length);
 
-/* Makes the controller of the image that stands at the end of `image`, with
- * the ordinary settings, whatever those of the state were. If it is locked, it
- * goes on as if the first keys of the code, as many as its position says, had
- * just been typed. Returns 0, 10 or 11. If refused, the state and its settings
- * are unchanged. */
+/* Makes the controller of the image, of either edition, that stands at the end
+ * of `image`, with this version byte and the built-in key table. Nothing stays
+ * of what the state held before. If it is locked, it goes on as if the first
+ * keys of the code, as many as its position says, had just been typed. Returns
+ * 0, 10 or 11. If refused, the state and its settings are unchanged. */
 CALUGNID_WARN_UNUSED
-uint8_t calugnid_load(uint8_t *state,
+uint8_t calugnid_load(uint8_t *state, uint8_t version,
                       const uint8_t *image, size_t image_length);
+
+/* The same with a key table of the caller's, which is copied into the state.
+ * The checks, in their order: 0, 10, 11, 13, 14 or 15. */
+CALUGNID_WARN_UNUSED
+uint8_t calugnid_load_with_table(uint8_t *state, uint8_t version,
+                                 const uint8_t *table, size_t table_length,
+                                 const uint8_t *image, size_t image_length);
 
 /* ---- Questions about a state. Nothing changes. */
 
@@ -439,8 +473,8 @@ bool calugnid_locked(const uint8_t *state);
 /* The byte being sent, 0 if nothing is being sent. */
 uint8_t calugnid_sent_byte(const uint8_t *state);
 
-/* The settings of the start: its options less the bits that are not looked at,
- * and its version byte. The key table stands in the state. */
+/* The settings of the start or of the load: the options less the bits that are
+ * not looked at, and the version byte. The key table stands in the state. */
 uint8_t calugnid_options(const uint8_t *state);
 uint8_t calugnid_version_byte(const uint8_t *state);
 
@@ -464,18 +498,61 @@ uint8_t calugnid_run_with_table(uint8_t options, uint8_t version,
 /* The check, 13, 14 or 15, that would refuse a key table, or 0. */
 uint8_t calugnid_table_refusal(const uint8_t *table, size_t table_length);
 
-/* Loads the image at the end of `image`, runs the list with the ordinary
- * settings, and saves to the first 68 bytes of `saved`. All checks come before
- * anything is written, in the order of their numbers: 0, 7, 8, 9, 10 or 11. */
+/* Loads the image, of either edition, at the end of `image`, with this version
+ * byte and the built-in key table, runs the list, and saves to the first 72
+ * bytes of `saved`. All checks come before anything is written, in the order of
+ * their numbers: 0, 7, 8, 9, 10 or 11. */
 CALUGNID_WARN_UNUSED
-uint8_t calugnid_run_image(const uint8_t *image, size_t image_length,
+uint8_t calugnid_run_image(uint8_t version,
+                           const uint8_t *image, size_t image_length,
                            const uint8_t *list, size_t list_length,
                            uint8_t *answers, size_t answers_length,
                            uint8_t *saved, size_t saved_length);
 
+/* The same with a key table of the caller's, which is not saved. The checks, in
+ * their order: 0, 7, 8, 9, 10, 11, 13, 14 or 15. */
+CALUGNID_WARN_UNUSED
+uint8_t calugnid_run_image_with_table(uint8_t version,
+                                      const uint8_t *table, size_t table_length,
+                                      const uint8_t *image, size_t image_length,
+                                      const uint8_t *list, size_t list_length,
+                                      uint8_t *answers, size_t answers_length,
+                                      uint8_t *saved, size_t saved_length);
+
+/* Moves the image of edition 1 at the end of `image` to edition 2: writes it to
+ * the first 72 bytes of `moved`, without options. Both load to the same state.
+ * Bytes past the 72 stay; refused, nothing is written. The checks, in their
+ * order: 0, 10 (an image of edition 2 too), 11 or 9. */
+CALUGNID_WARN_UNUSED
+uint8_t calugnid_move_to_edition_2(const uint8_t *image, size_t image_length,
+                                   uint8_t *moved, size_t moved_length);
+
+/* Moves the image of edition 2 at the end of `image` back to edition 1: writes
+ * it to the first 68 bytes of `moved`. Its bytes 60-63 have to be 00h, 3Fh, 03h
+ * and 00h, as a controller without options has them and no other has: edition 1
+ * has no room for more, and 16 refuses it. So no move loses anything, and to
+ * move an image there and back gives the same bytes. Bytes past the 68 stay;
+ * refused, nothing is written. The checks, in their order: 0, 10 (an image of
+ * edition 1 too), 11, 16 or 9. */
+CALUGNID_WARN_UNUSED
+uint8_t calugnid_move_to_edition_1(const uint8_t *image, size_t image_length,
+                                   uint8_t *moved, size_t moved_length);
+
 /* Where the body of the image at the end of `image` starts, or image_length
- * where there is no image (refusal 10). */
+ * where there is no image (refusal 10). From there to the end are 72 bytes of
+ * edition 2, 68 of edition 1, or none. */
 size_t calugnid_find(const uint8_t *image, size_t image_length);
+
+/* The edition of the image at the end of `image`, 1 or 2, or 0 where there is
+ * no image (refusal 10). The rules of its body are not looked at. */
+static inline int calugnid_edition(const uint8_t *image, size_t image_length)
+{
+    switch (image_length - calugnid_find(image, image_length)) {
+    case CALUGNID_EDITION_1_BYTES: return 1;
+    case CALUGNID_IMAGE_BYTES: return 2;
+    default: return 0;
+    }
+}
 
 /* The frame check: 0-FFh the byte of a sound frame, else what is wrong with it.
  * The start bit is judged first, then the stop bit, then parity. A number of
@@ -545,13 +622,14 @@ static inline const char *calugnid_refusal_name(uint8_t refusal)
     case CALUGNID_NOT_SENDING: return "nothing is being sent";
     case CALUGNID_BAD_LIST: return "bad length of a list";
     case CALUGNID_NO_ROOM: return "no room for the answers";
-    case CALUGNID_NO_SAVE_ROOM: return "no room to save";
-    case CALUGNID_BAD_IMAGE: return "no image";
+    case CALUGNID_NO_SAVE_ROOM: return "no room for the image";
+    case CALUGNID_BAD_IMAGE: return "no image, or of another edition";
     case CALUGNID_BAD_BODY: return "image breaks a body rule";
     case CALUGNID_NO_MOUSE: return "no mouse in AT mode";
     case CALUGNID_BAD_TABLE: return "bad length of a key table";
     case CALUGNID_BAD_KEYS: return "key table is no permutation";
     case CALUGNID_BAD_FIXED: return "key table changes a fixed entry";
+    case CALUGNID_NEEDS_EDITION_2: return "image needs edition 2";
     default: return "no refusal";
     }
 }

@@ -58,7 +58,7 @@ done
 
 # A result that may refuse and is not looked at draws a warning.
 echo '#include "calugnid.h"
-void ignore(uint8_t *state) { calugnid_load(state, state, 0); }' > "$programs/ignored.c"
+void ignore(uint8_t *state) { calugnid_load(state, 0, state, 0); }' > "$programs/ignored.c"
 for compiler in "cc -x c" "c++ -x c++"; do
     if $compiler -Werror -Iinclude -c "$programs/ignored.c" -o "$programs/ignored.o" 2> "$programs/said"; then
         echo "an ignored refusal drew no warning"

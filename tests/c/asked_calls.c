@@ -231,14 +231,14 @@ static void try_answers(void)
 /* Each refusal and each kind has a text of its own. */
 static void try_names(void)
 {
-    for (uint8_t i = 0; i <= CALUGNID_BAD_FIXED; i++)
+    for (uint8_t i = 0; i <= CALUGNID_NEEDS_EDITION_2; i++)
         for (uint8_t j = 0; j < i; j++)
             CHECK(strcmp(calugnid_refusal_name(i), calugnid_refusal_name(j)) != 0);
     for (uint8_t i = 0; i <= CALUGNID_PINS; i++)
         for (uint8_t j = 0; j < i; j++)
             CHECK(strcmp(calugnid_kind_name(i), calugnid_kind_name(j)) != 0);
     CHECK(strcmp(calugnid_refusal_name(CALUGNID_LOCKED), "locked") == 0);
-    CHECK(strcmp(calugnid_refusal_name(CALUGNID_BAD_FIXED + 1), "no refusal") == 0);
+    CHECK(strcmp(calugnid_refusal_name(CALUGNID_NEEDS_EDITION_2 + 1), "no refusal") == 0);
     CHECK(strcmp(calugnid_kind_name(CALUGNID_PINS), "pins") == 0);
     CHECK(strcmp(calugnid_kind_name(CALUGNID_PINS + 1), "no event") == 0);
 }

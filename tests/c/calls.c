@@ -1,5 +1,6 @@
 /* Calls the functions of include/calugnid.h that take no key table and no
- * trackball from C, or from C++, and checks what they hand back and write. */
+ * trackball, and move no image, from C, or from C++, and checks what they hand
+ * back and write. */
 #include "checks.h"
 
 /* The frame of 14h, the same with the other parity, one without a stop bit, and
@@ -64,8 +65,8 @@ static void try_events(void)
     CHECK(answer[CALUGNID_ANSWER_REFUSAL] == CALUGNID_SENDING);
 }
 
-/* An image's body is the state without its settings, and an image may stand
- * behind other bytes. */
+/* An image's body is the state without its version byte and its key table, and
+ * an image may stand behind other bytes. */
 static void try_images(void)
 {
     uint8_t state[CALUGNID_STATE_BYTES], other[CALUGNID_STATE_BYTES];
@@ -74,22 +75,22 @@ static void try_images(void)
 
     calugnid_start(state, CALUGNID_ORDINARY, 0);
     memset(bytes, 0, 7);
-    CHECK(calugnid_save(state, saved, 67) == CALUGNID_NO_SAVE_ROOM);
+    CHECK(calugnid_save(state, saved, 71) == CALUGNID_NO_SAVE_ROOM);
     CHECK(calugnid_save(state, bytes + 7, CALUGNID_IMAGE_BYTES) == CALUGNID_ACCEPTED);
     CHECK(memcmp(bytes + 7, state, BODY_BYTES) == 0);
     CHECK(calugnid_find(bytes, sizeof bytes) == 7);
     CHECK(calugnid_find(bytes, sizeof bytes - 1) == sizeof bytes - 1);
-    CHECK(calugnid_load(other, bytes, sizeof bytes) == CALUGNID_ACCEPTED);
+    CHECK(calugnid_load(other, 0, bytes, sizeof bytes) == CALUGNID_ACCEPTED);
     CHECK(memcmp(other, state, sizeof state) == 0);
-    CHECK(calugnid_load(other, bytes, 67) == CALUGNID_BAD_IMAGE);
-    CHECK(calugnid_run_image(bytes, sizeof bytes, list, sizeof list, answers, sizeof answers,
+    CHECK(calugnid_load(other, 0, bytes, 71) == CALUGNID_BAD_IMAGE);
+    CHECK(calugnid_run_image(0, bytes, sizeof bytes, list, sizeof list, answers, sizeof answers,
                              saved, sizeof saved) == CALUGNID_ACCEPTED);
     CHECK(memcmp(answers, expected, sizeof expected) == 0);
     CHECK(calugnid_run_state(state, list, sizeof list, answers, sizeof answers) == 0);
     CHECK(memcmp(saved, state, BODY_BYTES) == 0);
-    saved[3] |= 4; /* a third latch, and the sum mended for it */
-    saved[63] += 4;
-    CHECK(calugnid_load(other, saved, sizeof saved) == CALUGNID_BAD_BODY);
+    saved[3] |= 4; /* a third latch, and the sum put right for it */
+    put_trailer(saved, BODY_BYTES, 2);
+    CHECK(calugnid_load(other, 0, saved, sizeof saved) == CALUGNID_BAD_BODY);
 }
 
 /* Fresh whatever the options, which stand in byte 60 less their unused bits, and
@@ -107,7 +108,7 @@ static void try_starts(void)
     for (unsigned i = 0; i < 256 * 256; i++) {
         uint8_t options = (uint8_t)(i % 256), version = (uint8_t)(i / 256);
 
-        fresh[BODY_BYTES] = options % OPTION_CHOICES;
+        fresh[OPTIONS_BYTE] = options % OPTION_CHOICES;
         fresh[64] = version;
         memset(state, 0xA5, sizeof state);
         calugnid_start(state, options, version);
@@ -234,8 +235,8 @@ static void try_beside_mouse_lock(void)
     CHECK(calugnid_refusal(state, CALUGNID_MOUSE_FRAME, SOUND) == CALUGNID_NOT_READY);
 }
 
-/* An image has no room for mouse lock: a save leaves it out, so that a load
- * loses it. A refused load keeps it. */
+/* An image holds mouse lock: a load gives the image's, whatever the state had. A
+ * refused load keeps that of the state. */
 static void try_loads_with_mouse_lock(void)
 {
     uint8_t state[CALUGNID_STATE_BYTES], before[CALUGNID_STATE_BYTES];
@@ -244,34 +245,36 @@ static void try_loads_with_mouse_lock(void)
     start_turned(state, CALUGNID_ORDINARY, 0x02);
     CHECK(calugnid_save(state, ordinary, sizeof ordinary) == CALUGNID_ACCEPTED);
     start_turned(state, CALUGNID_MOUSE_LOCK, 0x02);
-    CHECK(calugnid_save(state, image, sizeof image) == CALUGNID_ACCEPTED);
-    CHECK(memcmp(image, ordinary, sizeof image) == 0);
     memcpy(before, state, sizeof state);
-    CHECK(calugnid_load(state, image, 67) == CALUGNID_BAD_IMAGE);
-    CHECK(memcmp(state, before, sizeof state) == 0);
-    image[3] |= 4; /* a third latch, and the sum mended for it */
-    image[63] += 4;
-    CHECK(calugnid_load(state, image, sizeof image) == CALUGNID_BAD_BODY);
-    CHECK(memcmp(state, before, sizeof state) == 0);
-    CHECK(leaves(state, CALUGNID_MOUSE_FRAME, SOUND, 0x00, 0x03));
-    CHECK(calugnid_load(state, ordinary, sizeof ordinary) == CALUGNID_ACCEPTED);
-    CHECK(memcmp(state, before, BODY_BYTES) == 0);
-    CHECK(state[BODY_BYTES] == CALUGNID_ORDINARY);
+    CHECK(calugnid_save(state, image, sizeof image) == CALUGNID_ACCEPTED);
+    CHECK(memcmp(image, ordinary, OPTIONS_BYTE) == 0);
+    CHECK(image[OPTIONS_BYTE] == CALUGNID_MOUSE_LOCK && ordinary[OPTIONS_BYTE] == 0);
+    CHECK(calugnid_load(state, VERSION, ordinary, sizeof ordinary) == CALUGNID_ACCEPTED);
     CHECK(leaves(state, CALUGNID_MOUSE_FRAME, SOUND, 0x21, 0x23));
     CHECK(reads(state, 0x14, false));
+    CHECK(calugnid_load(state, VERSION, image, sizeof image) == CALUGNID_ACCEPTED);
+    CHECK(memcmp(state, before, sizeof state) == 0);
+    CHECK(leaves(state, CALUGNID_MOUSE_FRAME, SOUND, 0x00, 0x03));
+    ordinary[3] |= 4; /* a third latch, and the sum put right for it */
+    put_trailer(ordinary, BODY_BYTES, 2);
+    CHECK(calugnid_load(state, VERSION, ordinary, sizeof ordinary) == CALUGNID_BAD_BODY);
+    CHECK(calugnid_load(state, VERSION, ordinary, 71) == CALUGNID_BAD_IMAGE);
+    CHECK(memcmp(state, before, sizeof state) == 0);
+    CHECK(leaves(state, CALUGNID_MOUSE_FRAME, SOUND, 0x00, 0x03));
 }
 
-/* The call that loads, runs and saves has the ordinary settings. */
+/* The call that loads, runs and saves has the settings of the image. */
 static void try_run_image_with_mouse_lock(void)
 {
-    uint8_t state[CALUGNID_STATE_BYTES], answers[sizeof shown];
+    uint8_t state[CALUGNID_STATE_BYTES], answers[sizeof kept_back];
     uint8_t image[CALUGNID_IMAGE_BYTES], saved[CALUGNID_IMAGE_BYTES];
 
     calugnid_start(state, CALUGNID_MOUSE_LOCK, 0);
     CHECK(calugnid_save(state, image, sizeof image) == CALUGNID_ACCEPTED);
-    CHECK(calugnid_run_image(image, sizeof image, turned, sizeof turned, answers, sizeof answers,
-                             saved, sizeof saved) == CALUGNID_ACCEPTED);
-    CHECK(memcmp(answers, shown, sizeof shown) == 0);
+    CHECK(calugnid_run_image(0, image, sizeof image, turned, sizeof turned, answers,
+                             sizeof answers, saved, sizeof saved) == CALUGNID_ACCEPTED);
+    CHECK(memcmp(answers, kept_back, sizeof kept_back) == 0);
+    CHECK(saved[OPTIONS_BYTE] == CALUGNID_MOUSE_LOCK);
 }
 
 /* Feeds noise from one device, with each stop bit and parity: the event is
@@ -381,7 +384,7 @@ static void try_mismatches(uint8_t options)
     for (int i = 0; i < 3; i++)
         CHECK(typed(state, 0x1C, CALUGNID_LOCKED));
     CHECK(calugnid_save(state, image, sizeof image) == CALUGNID_ACCEPTED);
-    CHECK(calugnid_load(other, image, sizeof image) == CALUGNID_ACCEPTED);
+    CHECK(calugnid_load(other, VERSION, image, sizeof image) == CALUGNID_ACCEPTED);
     CHECK(typed(state, 0x32, CALUGNID_ACCEPTED));
     CHECK(typed(other, 0x32, CALUGNID_ACCEPTED));
     start_locked(state, options, code, sizeof code);
@@ -516,7 +519,7 @@ static void try_pc_at_commands(uint8_t options)
     }
 }
 
-/* An image has no room for what AT mode adds: a load gives PS/2 mode. */
+/* An image holds what AT mode adds: the mode, latches and time-out come back. */
 static void try_pc_at_images(uint8_t options)
 {
     uint8_t state[CALUGNID_STATE_BYTES], before[CALUGNID_STATE_BYTES];
@@ -527,18 +530,18 @@ static void try_pc_at_images(uint8_t options)
     CHECK(times_out(state));
     CHECK(leaves(state, CALUGNID_WRITE_COMMAND, 0xD1, 0x38, 0x8F));
     CHECK(leaves(state, CALUGNID_WRITE_DATA, 0x22, 0x30, 0xA2));
-    CHECK(state[BODY_BYTES] == options % OPTION_CHOICES + allowed);
+    CHECK(state[OPTIONS_BYTE] == options % OPTION_CHOICES + allowed);
     CHECK(state[62] == 0x08 && state[63] == 0x01);
     CHECK(calugnid_save(state, image, sizeof image) == CALUGNID_ACCEPTED);
     CHECK(memcmp(image, state, BODY_BYTES) == 0);
     memcpy(before, state, sizeof state);
-    CHECK(calugnid_load(state, image, 67) == CALUGNID_BAD_IMAGE);
+    CHECK(calugnid_load(state, 0, image, 71) == CALUGNID_BAD_IMAGE);
     CHECK(memcmp(state, before, sizeof state) == 0);
-    CHECK(calugnid_load(state, image, sizeof image) == CALUGNID_ACCEPTED);
-    CHECK(memcmp(state, before, BODY_BYTES) == 0);
-    CHECK(state[BODY_BYTES] == CALUGNID_ORDINARY && state[62] == 0x03 && state[63] == 0x00);
-    CHECK(leaves(state, CALUGNID_PINS, 0xFF, 0x10, 0x0A));
-    CHECK(calugnid_refusal(state, CALUGNID_MOUSE_FRAME, SOUND) == CALUGNID_NOT_READY);
+    calugnid_start(state, CALUGNID_ORDINARY, 0);
+    CHECK(calugnid_load(state, VERSION, image, sizeof image) == CALUGNID_ACCEPTED);
+    CHECK(memcmp(state, before, sizeof state) == 0);
+    CHECK(leaves(state, CALUGNID_PINS, 0xFF, 0x30, 0xA2));
+    CHECK(calugnid_refusal(state, CALUGNID_MOUSE_FRAME, SOUND) == CALUGNID_NO_MOUSE);
 }
 
 static void try_pc_at(uint8_t options)

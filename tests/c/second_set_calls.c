@@ -76,9 +76,9 @@ static bool writes_port(uint8_t *state, uint8_t byte, uint8_t before, uint8_t p2
 static void try_ps2_latches(uint8_t *state)
 {
     CHECK(writes_port(state, 0xD0, 0x03, 0x00) && state[62] == 3);
-    CHECK(commands(state, 0xC8, 0x00) && state[BODY_BYTES] == (CALUGNID_SECOND_SET | 8));
+    CHECK(commands(state, 0xC8, 0x00) && state[OPTIONS_BYTE] == (CALUGNID_SECOND_SET | 8));
     CHECK(writes_port(state, 0xD3, 0x00, 0x03) && state[62] == 0);
-    CHECK(commands(state, 0xC9, 0x03) && state[BODY_BYTES] == CALUGNID_SECOND_SET);
+    CHECK(commands(state, 0xC9, 0x03) && state[OPTIONS_BYTE] == CALUGNID_SECOND_SET);
     CHECK(writes_port(state, 0xFF, 0x03, 0x03) && state[62] == 0);
     CHECK(commands(state, 0xBC, 0x03) && state[62] == 1);
     CHECK(commands(state, 0xBD, 0x03) && state[62] == 3);
@@ -132,7 +132,8 @@ static void try_pc_at_answers(uint8_t *state)
     CHECK(commands(state, 0xC2, PC_AT_PORT));
 }
 
-/* An image has no room for what this set adds: a load gives the first set. */
+/* An image holds what this set adds, and the load is given the version byte: the
+ * save's, so that all comes back, and another. */
 static void try_images(uint8_t *state)
 {
     uint8_t image[CALUGNID_IMAGE_BYTES], before[CALUGNID_STATE_BYTES];
@@ -143,14 +144,16 @@ static void try_images(uint8_t *state)
     CHECK(calugnid_save(state, image, sizeof image) == CALUGNID_ACCEPTED);
     CHECK(memcmp(image, state, BODY_BYTES) == 0);
     memcpy(before, state, sizeof before);
-    CHECK(calugnid_load(state, image, 67) == CALUGNID_BAD_IMAGE);
+    CHECK(calugnid_load(state, 0, image, 71) == CALUGNID_BAD_IMAGE);
     CHECK(memcmp(state, before, sizeof before) == 0);
-    CHECK(calugnid_load(state, image, sizeof image) == CALUGNID_ACCEPTED);
-    CHECK(memcmp(state, before, BODY_BYTES) == 0);
-    CHECK(state[BODY_BYTES] == CALUGNID_ORDINARY && state[61] == 0x3F);
-    CHECK(state[62] == 3 && state[63] == 0 && state[64] == 0);
-    CHECK(commands(state, 0xA1, PS2_PORT));
-    CHECK(puts_byte(state, 0xC0, 0xFF, PS2_PORT));
+    calugnid_start(state, CALUGNID_PC_AT, 0);
+    CHECK(calugnid_load(state, VERSION, image, sizeof image) == CALUGNID_ACCEPTED);
+    CHECK(memcmp(state, before, sizeof before) == 0);
+    CHECK(puts_byte(state, 0xA1, VERSION, PS2_PORT));
+    CHECK(puts_byte(state, 0xC0, 0xF0, PS2_PORT));
+    CHECK(calugnid_load(state, VERSION + 1, image, sizeof image) == CALUGNID_ACCEPTED);
+    CHECK(puts_byte(state, 0xAF, VERSION + 1, PS2_PORT));
+    CHECK(puts_byte(state, 0xC0, 0xF0, PS2_PORT));
 }
 
 /* With the first set these commands change nothing but C, and no byte of what

@@ -10,17 +10,6 @@ enum { TABLE = CALUGNID_TABLE_BYTES, TWO_TABLES = 2 * TABLE };
 /* Bytes that a table has to give themselves. */
 static const uint8_t fixed[] = {0xE0, 0xE1, 0xEE, 0xF0, 0xFA, 0xFE};
 
-/* The built-in table with two keys changed about, so that 1Ch gives 30h and 32h
- * gives 1Eh, and with two bytes that are no keys: 90h gives 1Eh, 91h gives F0h. */
-static void changed_about(uint8_t *table)
-{
-    built_in_table(table);
-    table[0x1C] = 0x30;
-    table[0x32] = 0x1E;
-    table[0x90] = 0x1E;
-    table[0x91] = 0xF0;
-}
-
 /* Whether a run is refused by the number and leaves the answers. The list may be
  * bad and the room too small. */
 static bool run_refused(uint8_t number, const uint8_t *table, size_t length,
@@ -236,20 +225,25 @@ static void try_runs(void)
     CHECK(memcmp(answers, other, sizeof other) == 0);
 }
 
-/* A save leaves the table out, a refused load keeps it, and a load gives the
- * built-in one. */
+/* A save leaves the table out and a refused load keeps it. A load without a table
+ * gives the built-in one, a load with a table that table. */
 static void try_images(void)
 {
     uint8_t state[CALUGNID_STATE_BYTES], table[TABLE], image[CALUGNID_IMAGE_BYTES];
 
     start_changed_about(state);
     CHECK(calugnid_save(state, image, sizeof image) == CALUGNID_ACCEPTED);
-    CHECK(calugnid_load(state, image, sizeof image - 1) == CALUGNID_BAD_IMAGE);
+    CHECK(calugnid_load(state, VERSION, image, sizeof image - 1) == CALUGNID_BAD_IMAGE);
     CHECK(gives(state, 0x1C, 0x30));
-    CHECK(calugnid_load(state, image, sizeof image) == CALUGNID_ACCEPTED);
+    CHECK(calugnid_load(state, VERSION, image, sizeof image) == CALUGNID_ACCEPTED);
     built_in_table(table);
     CHECK(memcmp(state + CALUGNID_STATE_TABLE, table, sizeof table) == 0);
     CHECK(gives(state, 0x1C, 0x1E));
+    changed_about(table);
+    CHECK(calugnid_load_with_table(state, VERSION, table, sizeof table, image, sizeof image) ==
+          CALUGNID_ACCEPTED);
+    CHECK(memcmp(state + CALUGNID_STATE_TABLE, table, sizeof table) == 0);
+    CHECK(gives(state, 0x1C, 0x30));
 }
 
 int main(void)

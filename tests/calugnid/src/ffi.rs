@@ -29,7 +29,15 @@ unsafe extern "C" {
         count: *mut usize,
     ) -> u8;
     pub fn calugnid_save(state: *const u8, saved: *mut u8, saved_len: usize) -> u8;
-    pub fn calugnid_load(state: *mut u8, image: *const u8, image_len: usize) -> u8;
+    pub fn calugnid_load(state: *mut u8, version: u8, image: *const u8, image_len: usize) -> u8;
+    pub fn calugnid_load_with_table(
+        state: *mut u8,
+        version: u8,
+        table: *const u8,
+        table_len: usize,
+        image: *const u8,
+        image_len: usize,
+    ) -> u8;
     pub fn calugnid_lines(state: *const u8, answer: *mut u8);
     pub fn calugnid_refusal(state: *const u8, kind: u8, value: u16) -> u8;
     pub fn calugnid_sent_byte(state: *const u8) -> u8;
@@ -59,6 +67,7 @@ unsafe extern "C" {
     ) -> u8;
     pub fn calugnid_table_refusal(table: *const u8, table_len: usize) -> u8;
     pub fn calugnid_run_image(
+        version: u8,
         image: *const u8,
         image_len: usize,
         list: *const u8,
@@ -67,6 +76,31 @@ unsafe extern "C" {
         answers_len: usize,
         saved: *mut u8,
         saved_len: usize,
+    ) -> u8;
+    pub fn calugnid_run_image_with_table(
+        version: u8,
+        table: *const u8,
+        table_len: usize,
+        image: *const u8,
+        image_len: usize,
+        list: *const u8,
+        list_len: usize,
+        answers: *mut u8,
+        answers_len: usize,
+        saved: *mut u8,
+        saved_len: usize,
+    ) -> u8;
+    pub fn calugnid_move_to_edition_2(
+        image: *const u8,
+        image_len: usize,
+        moved: *mut u8,
+        moved_len: usize,
+    ) -> u8;
+    pub fn calugnid_move_to_edition_1(
+        image: *const u8,
+        image_len: usize,
+        moved: *mut u8,
+        moved_len: usize,
     ) -> u8;
     pub fn calugnid_find(image: *const u8, image_len: usize) -> usize;
     pub fn calugnid_judge(frame: u16) -> u16;

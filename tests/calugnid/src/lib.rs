@@ -1,9 +1,11 @@
 //! Safe calls into the static library under test.
 
 mod ffi;
+mod images;
 mod state;
 mod trackball;
 
+pub use images::{find, move_to_edition_1, move_to_edition_2, run_image, run_image_with_table};
 pub use state::{ANSWER_SIZE, Answer, STATE_SIZE, State};
 pub use trackball::{FRAMES, Frames, TRACKBALL_SIZE, Trackball};
 
@@ -73,30 +75,6 @@ pub fn run_with_table(
 pub fn table_refusal(table: &[u8]) -> u8 {
     // SAFETY: the pointer comes with the length of its slice.
     unsafe { ffi::calugnid_table_refusal(table.as_ptr(), table.len()) }
-}
-
-/// Loads an image, runs a list, saves, and hands back the refusal number.
-pub fn run_image(image: &[u8], list: &[u8], answers: &mut [u8], saved: &mut [u8]) -> u8 {
-    // SAFETY: each pointer comes with the length of its own slice, and the
-    // slices cannot overlap where one is written.
-    unsafe {
-        ffi::calugnid_run_image(
-            image.as_ptr(),
-            image.len(),
-            list.as_ptr(),
-            list.len(),
-            answers.as_mut_ptr(),
-            answers.len(),
-            saved.as_mut_ptr(),
-            saved.len(),
-        )
-    }
-}
-
-/// The offset of the image's body, or the length of `image` without one.
-pub fn find(image: &[u8]) -> usize {
-    // SAFETY: the pointer comes with the length of its slice.
-    unsafe { ffi::calugnid_find(image.as_ptr(), image.len()) }
 }
 
 /// The byte of a sound frame, `WRONG_PARITY`, `BROKEN` or `NOISE`.

@@ -8,9 +8,8 @@ pub const ANSWER_SIZE: usize = 9;
 
 pub type Answer = [u8; ANSWER_SIZE];
 
-/// The bytes that the library changes in place: an image's body, the options,
-/// what only AT mode or the second set changes, the version byte, and the key
-/// table.
+/// The bytes that the library changes in place: an image's body, the version
+/// byte, and the key table.
 ///
 /// They stand in a cell, so that a call which writes where it is only to read
 /// is seen by whoever looks at the bytes afterwards.
@@ -112,9 +111,25 @@ impl State {
 
     /// Loads the image at the end of the bytes and hands back the refusal
     /// number.
-    pub fn load(&mut self, image: &[u8]) -> u8 {
+    pub fn load(&mut self, version: u8, image: &[u8]) -> u8 {
         // SAFETY: as for `save`.
-        unsafe { ffi::calugnid_load(self.pointer(), image.as_ptr(), image.len()) }
+        unsafe { ffi::calugnid_load(self.pointer(), version, image.as_ptr(), image.len()) }
+    }
+
+    /// The same with a key table.
+    pub fn load_with_table(&mut self, version: u8, table: &[u8], image: &[u8]) -> u8 {
+        // SAFETY: the first pointer is to a whole state, the others come with
+        // the lengths of their own slices.
+        unsafe {
+            ffi::calugnid_load_with_table(
+                self.pointer(),
+                version,
+                table.as_ptr(),
+                table.len(),
+                image.as_ptr(),
+                image.len(),
+            )
+        }
     }
 
     /// Writes the answer that stands with no event.

@@ -3,6 +3,7 @@
 
 use crate::event::Event;
 use crate::fenced::Fenced;
+use crate::given::Given;
 use crate::guarded::Guarded;
 use crate::random::Random;
 use crate::starts;
@@ -27,17 +28,11 @@ impl Both {
         both
     }
 
-    /// A controller in the given state. It is loaded where the settings are
-    /// the ordinary ones, which a load gives, and else made of its bytes.
+    /// A controller in the given state, loaded where any bytes were.
     pub fn of(random: &mut Random, state: &Controller) -> Both {
-        if state.settings != Settings::ORDINARY {
-            return Both {
-                model: state.clone(),
-                fenced: Fenced::around(random, state_bytes(state)),
-            };
-        }
         let mut both = Both::unmade(random);
-        assert_eq!(both.load(&model::save(state)), 0, "load of {state:?}");
+        let given = Given::again(&state.settings);
+        assert_eq!(both.load(given, &model::save(state)), 0, "{state:?}");
         both
     }
 
@@ -163,17 +158,17 @@ impl Both {
 
     /// Loads; hands back the refusal number. A refused load leaves whatever
     /// bytes there are.
-    pub fn load(&mut self, image: &[u8]) -> u8 {
+    pub fn load(&mut self, given: Given, image: &[u8]) -> u8 {
         let before = self.bytes();
-        let result = self.fenced.state_mut().load(image);
-        match model::load(image) {
+        let result = given.load_by_library(self.fenced.state_mut(), image);
+        match given.load_by_model(image) {
             Ok(state) => {
-                assert_eq!(result, 0, "refusal of {image:02X?}");
+                assert_eq!(result, 0, "refusal of {image:02X?} with {given:02X?}");
                 self.model = state;
                 self.assert_same("a load");
             }
             Err(refusal) => {
-                assert_eq!(result, refusal, "refusal of {image:02X?}");
+                assert_eq!(result, refusal, "refusal of {image:02X?} with {given:02X?}");
                 self.fenced.assert_bytes(&before, "a refused load");
             }
         }
@@ -187,6 +182,6 @@ pub fn start_with_table(random: &mut Random, settings: Settings, table: &[u8]) -
 }
 
 /// Loads over bytes that stand for nothing; hands back the refusal number.
-pub fn load(random: &mut Random, image: &[u8]) -> u8 {
-    Both::unmade(random).load(image)
+pub fn load(random: &mut Random, given: Given, image: &[u8]) -> u8 {
+    Both::unmade(random).load(given, image)
 }

@@ -19,6 +19,14 @@ impl Guarded {
         }
     }
 
+    /// The same around bytes that a call only reads.
+    pub fn holding(random: &mut Random, held: &[u8]) -> Guarded {
+        let mut guarded = Guarded::new(random, held.len());
+        guarded.inside().copy_from_slice(held);
+        guarded.original.clone_from(&guarded.bytes);
+        guarded
+    }
+
     pub fn inside(&mut self) -> &mut [u8] {
         let end = self.bytes.len() - MARGIN;
         &mut self.bytes[MARGIN..end]
@@ -27,6 +35,11 @@ impl Guarded {
     /// The same where the length is known.
     pub fn array<const N: usize>(&mut self) -> &mut [u8; N] {
         self.inside().try_into().expect("a buffer of that length")
+    }
+
+    /// Checks that no byte has changed.
+    pub fn assert_as_it_was(&self, what: &str) {
+        self.assert_begins(&[], what);
     }
 
     /// Checks that the buffer now begins with `written` and that every other

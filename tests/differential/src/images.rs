@@ -1,13 +1,17 @@
 //! Images that keep the body rules, drawn at random, and ways to mend sums.
 
 use crate::random::Random;
-use model::{BODY_SIZE, Controller, Device, IMAGE_SIZE, Password, Pending, Settings, mode, save};
+use crate::under_settings::WITH_BUILT_IN_TABLE;
+use model::{
+    Controller, Device, EDITION_1_BODY_SIZE, EDITION_1_SIZE, Edition, IMAGE_SIZE, Password,
+    Pending, Settings, encode, mode, save, seal,
+};
 
 /// Writes the sum that the body of an image asks for.
-pub fn mend(image: &mut [u8]) {
-    let start = image.len() - IMAGE_SIZE;
-    let sum = model::word_sum(&image[start..start + BODY_SIZE]).to_le_bytes();
-    image[start + BODY_SIZE + 2..start + BODY_SIZE + 4].copy_from_slice(&sum);
+pub fn mend(edition: Edition, image: &mut [u8]) {
+    let start = image.len() - edition.image_size();
+    let (body, trailer) = image[start..].split_at_mut(edition.body_size());
+    trailer[2..4].copy_from_slice(&model::word_sum(body).to_le_bytes());
 }
 
 fn pending(random: &mut Random) -> Pending {
@@ -115,8 +119,8 @@ pub fn state(random: &mut Random, settings: Settings) -> Controller {
 }
 
 /// An image behind other bytes.
-pub fn behind(random: &mut Random, image: &[u8; IMAGE_SIZE]) -> Vec<u8> {
-    let lead = random.pick(&[0, 0, 1, 2, 7, 60, 68, 200]);
+pub fn behind(random: &mut Random, image: &[u8]) -> Vec<u8> {
+    let lead = random.pick(&[0, 0, 1, 2, 4, 7, 60, 68, 72, 200]);
     let mut bytes = random.bytes(lead);
     bytes.extend_from_slice(image);
     bytes
@@ -124,7 +128,28 @@ pub fn behind(random: &mut Random, image: &[u8; IMAGE_SIZE]) -> Vec<u8> {
 
 /// A random sound image.
 pub fn image(random: &mut Random) -> [u8; IMAGE_SIZE] {
-    save(&state(random, Settings::ORDINARY))
+    let settings = random.pick(&WITH_BUILT_IN_TABLE);
+    save(&state(random, settings))
+}
+
+/// A state as an image of edition 1, which has no place for its settings.
+pub fn as_edition_1(state: &Controller) -> [u8; EDITION_1_SIZE] {
+    let body = &encode(state)[..EDITION_1_BODY_SIZE];
+    let image = seal(Edition::First, body);
+    image.try_into().expect("a body and its trailer")
+}
+
+/// A random sound image of edition 1.
+pub fn edition_1_image(random: &mut Random) -> [u8; EDITION_1_SIZE] {
+    as_edition_1(&state(random, Settings::ORDINARY))
+}
+
+/// A random sound image of the edition that is asked for.
+pub fn image_of(random: &mut Random, edition: Edition) -> Vec<u8> {
+    match edition {
+        Edition::First => edition_1_image(random).to_vec(),
+        Edition::Second => image(random).to_vec(),
+    }
 }
 
 #[cfg(test)]
@@ -139,6 +164,22 @@ mod tests {
         for settings in all() {
             for _ in 0..2_000 {
                 assert!(keeps_state_rules(&state(&mut random, settings)));
+            }
+        }
+    }
+
+    #[test]
+    fn mended_images_are_those_that_are_drawn() {
+        let mut random = Random::new(9);
+        for edition in Edition::ALL {
+            for _ in 0..100 {
+                let image = image_of(&mut random, edition);
+                let mut mended = image.clone();
+                let at = edition.body_size() + 2;
+                mended[at] ^= 1;
+                mend(edition, &mut mended);
+                assert_eq!(mended, image);
+                assert_eq!(model::find(&image).len(), edition.body_size());
             }
         }
     }

@@ -1,30 +1,26 @@
-//! Each body rule broken alone.
+//! Each body rule that both editions have, broken alone.
 
-use differential::both;
-use differential::compare::{self, Room};
+use differential::image_tries::ImageTries;
 use differential::images;
-use differential::random::Random;
-use model::{Controller, Device, IMAGE_SIZE, Password, Pending, Settings, save};
+use model::{Controller, Device, Edition, Password, Pending, Settings, save};
 
 type Change = (&'static str, &'static [(usize, u8)]);
 
-/// Loads a body with the given bytes changed and the sum mended.
+/// Tries a body with the given bytes changed and the sum mended, as an image of
+/// either edition.
 fn refusal_of(state: &Controller, changes: &[(usize, u8)]) -> u8 {
-    let mut random = Random::new(31);
-    let mut image = save(state);
-    for &(at, value) in changes {
-        image[at] = value;
-    }
-    images::mend(&mut image);
-    let list = [2, 0, 0, 0, 0, 0];
-    compare::find(&image);
-    let room = Room {
-        answers: 18,
-        saved: IMAGE_SIZE,
-    };
-    let refusal = compare::run_image(&mut random, &image, &list, room).refusal;
-    assert_eq!(both::load(&mut random, &image), refusal);
-    refusal
+    let mut tries = ImageTries::new(31);
+    let new = save(state).to_vec();
+    let old = images::as_edition_1(state).to_vec();
+    let refusals = [(Edition::Second, new), (Edition::First, old)].map(|(edition, mut image)| {
+        for &(at, value) in changes {
+            image[at] = value;
+        }
+        images::mend(edition, &mut image);
+        tries.image(&image)
+    });
+    assert_eq!(refusals[0], refusals[1], "the two editions");
+    refusals[0]
 }
 
 fn assert_broken(state: &Controller, rules: &[Change]) {

@@ -2,10 +2,11 @@
 
 use differential::compare::{self, Room};
 use differential::coverage::Coverage;
+use differential::given::Given;
 use differential::images;
 use differential::lists;
 use differential::random::Random;
-use model::{IMAGE_SIZE, Settings};
+use model::{Edition, IMAGE_SIZE, Settings};
 
 /// 7,001 events that follow the machine, at the end drawn blindly.
 fn full_list(random: &mut Random, settings: Settings) -> Vec<u8> {
@@ -82,15 +83,12 @@ fn saves_of_every_size() {
     for room in (0..=100).chain([255, 256, 1_000]) {
         let refusal = if room < IMAGE_SIZE { 9 } else { 0 };
         let image = images::image(&mut random);
-        let written = compare::run_image(
-            &mut random,
-            &image,
-            &[2, 0, 0],
-            Room {
-                answers: 9,
-                saved: room,
-            },
-        );
+        let room = Room {
+            answers: 9,
+            saved: room,
+        };
+        let given = Given::version(0);
+        let written = compare::run_image(&mut random, given, &image, &[2, 0, 0], room);
         assert_eq!(written.refusal, refusal);
     }
 }
@@ -100,9 +98,9 @@ fn three_images(random: &mut Random) -> [Vec<u8>; 3] {
     let good = images::image(random).to_vec();
     let mut unruly = good.clone();
     unruly[3] |= 4;
-    images::mend(&mut unruly);
+    images::mend(Edition::Second, &mut unruly);
     let mut unmarked = good.clone();
-    unmarked[67] ^= 1;
+    unmarked[71] ^= 1;
     [good, unruly, unmarked]
 }
 
@@ -113,10 +111,12 @@ fn every_mix_of_refusals() {
     for image in three_images(&mut random) {
         for length in [0, 1, 2, 3, 6, 21_000, 21_003] {
             for answers in [0, 8, 9, 18, 63_000] {
-                for saved in [0, 67, 68, 100] {
+                for saved in [0, 68, 71, 72, 100] {
                     let list = lists::unguided(&mut random, length / 3 + 1);
                     let room = Room { answers, saved };
-                    let written = compare::run_image(&mut random, &image, &list[..length], room);
+                    let list = &list[..length];
+                    let given = Given::version(0);
+                    let written = compare::run_image(&mut random, given, &image, list, room);
                     seen[usize::from(written.refusal)] += 1;
                 }
             }

@@ -1,129 +1,202 @@
-//! Images with something wrong in them.
+//! Images of both editions with something wrong in them.
 
-use differential::both;
-use differential::compare::{self, Room};
+use differential::compare;
+use differential::image_tries::ImageTries;
 use differential::images;
-use differential::random::Random;
 use differential::rounds::rounds;
-use model::{BODY_SIZE, Controller, IMAGE_SIZE, Settings, save};
+use differential::trailers::Trailer;
+use differential::under_settings::WITH_BUILT_IN_TABLE;
+use model::{Controller, Edition, Settings, save};
 
-/// Reads, a command and a key: enough to show what was loaded.
-const LIST: [u8; 15] = [2, 0, 0, 0, 0, 0, 3, 0x20, 0, 0, 0, 0, 4, 0x38, 0x06];
-
-/// Compares the finder, a load and a run; hands back the refusal number.
-fn try_image(random: &mut Random, bytes: &[u8]) -> u8 {
-    compare::find(bytes);
-    let room = Room::enough(random, &LIST);
-    let refusal = compare::run_image(random, bytes, &LIST, room).refusal;
-    assert_eq!(both::load(random, bytes), refusal);
-    refusal
+/// A sound image for each choice of settings, and as many of edition 1.
+fn sound_images(tries: &mut ImageTries) -> Vec<(Edition, Vec<u8>)> {
+    let mut sound = Vec::new();
+    for settings in WITH_BUILT_IN_TABLE {
+        let state = images::state(&mut tries.random, settings);
+        sound.push((Edition::Second, save(&state).to_vec()));
+        let image = images::edition_1_image(&mut tries.random);
+        sound.push((Edition::First, image.to_vec()));
+    }
+    sound
 }
 
 #[test]
 fn every_byte_changed_to_every_value() {
-    let mut random = Random::new(21);
-    let mut refusals = [0; 12];
-    for _ in 0..8 * rounds() {
-        let sound = images::image(&mut random);
-        for at in 0..IMAGE_SIZE {
-            for value in 0..=0xFF {
-                let mut image = sound;
-                image[at] = value;
-                refusals[usize::from(try_image(&mut random, &image))] += 1;
+    let mut tries = ImageTries::new(21);
+    for _ in 0..rounds() {
+        for (_, sound) in sound_images(&mut tries) {
+            for at in 0..sound.len() {
+                for value in 0..=0xFF {
+                    let mut image = sound.clone();
+                    image[at] = value;
+                    let refusal = tries.image(&image);
+                    assert_eq!(refusal, if image == sound { 0 } else { 10 });
+                }
             }
         }
     }
-    println!("{refusals:?}");
-    assert!(refusals[0] > 0 && refusals[10] > 0);
+    tries.print();
 }
 
 #[test]
 fn every_body_byte_changed_and_the_sum_mended() {
-    let mut random = Random::new(22);
-    let mut refusals = [0; 12];
-    for _ in 0..8 * rounds() {
-        let sound = images::image(&mut random);
-        for at in 0..BODY_SIZE {
-            for value in 0..=0xFF {
-                let mut image = sound;
-                image[at] = value;
-                images::mend(&mut image);
-                refusals[usize::from(try_image(&mut random, &image))] += 1;
+    let mut tries = ImageTries::new(22);
+    for _ in 0..rounds() {
+        for (edition, sound) in sound_images(&mut tries) {
+            for at in 0..edition.body_size() {
+                for value in 0..=0xFF {
+                    let mut image = sound.clone();
+                    image[at] = value;
+                    images::mend(edition, &mut image);
+                    tries.image(&image);
+                }
             }
         }
     }
-    println!("{refusals:?}");
-    assert!(refusals[0] > 10_000 && refusals[11] > 10_000 && refusals[10] == 0);
+    tries.print();
+    assert!(tries.loads(0) > 10_000 && tries.loads(11) > 10_000 && tries.loads(10) == 0);
+    assert!(tries.moves(0) > 10_000 && tries.moves(11) > 10_000 && tries.moves(16) > 10_000);
+}
+
+/// A value that some rule is about, or any.
+fn telling_value(tries: &mut ImageTries) -> u8 {
+    const VALUES: [u8; 16] = [
+        0, 1, 2, 3, 4, 7, 8, 12, 15, 16, 17, 31, 32, 0x3F, 0x42, 0x80,
+    ];
+    match tries.random.below(4) {
+        0 => tries.random.byte(),
+        _ => tries.random.pick(&VALUES),
+    }
+}
+
+/// Every two places, with the sum as it was and with the sum mended.
+#[test]
+fn every_two_bytes_changed() {
+    let mut tries = ImageTries::new(27);
+    for _ in 0..rounds() {
+        for edition in Edition::ALL {
+            for one in 0..edition.image_size() {
+                for other in 0..one {
+                    let mut image = images::image_of(&mut tries.random, edition);
+                    image[one] = telling_value(&mut tries);
+                    image[other] = telling_value(&mut tries);
+                    tries.image(&image);
+                    images::mend(edition, &mut image);
+                    tries.image(&image);
+                }
+            }
+        }
+    }
+    tries.print();
+    assert!([0, 10, 11].iter().all(|&number| tries.loads(number) > 500));
 }
 
 #[test]
 fn several_body_bytes_changed_and_the_sum_mended() {
-    let mut random = Random::new(23);
-    let mut refusals = [0; 12];
-    for _ in 0..30_000 * rounds() {
-        let mut image = images::image(&mut random);
-        for _ in 0..1 + random.below(3) {
-            // The first bytes carry nearly all of the rules.
-            let at = random.pick(&[1, 3, 4, 5, 6, 7, 8, 9, 10, 11, 12, 27, 28]);
-            image[at] = random.pick(&[0, 1, 2, 3, 4, 7, 8, 15, 16, 17, 31, 32, 0x42, 0x80]);
+    let mut tries = ImageTries::new(23);
+    for number in 0..30_000 * rounds() {
+        let edition = Edition::ALL[number % 2];
+        let mut image = images::image_of(&mut tries.random, edition);
+        for _ in 0..1 + tries.random.below(3) {
+            // The first bytes and the last carry nearly all of the rules.
+            const PLACES: [usize; 17] =
+                [1, 3, 4, 5, 6, 7, 8, 9, 10, 11, 12, 27, 28, 60, 61, 62, 63];
+            let at = tries.random.pick(&PLACES).min(edition.body_size() - 1);
+            image[at] = telling_value(&mut tries);
         }
-        images::mend(&mut image);
-        refusals[usize::from(try_image(&mut random, &image))] += 1;
+        images::mend(edition, &mut image);
+        tries.image(&image);
     }
-    println!("{refusals:?}");
-    assert!(refusals[0] > 1_000 && refusals[11] > 1_000);
+    tries.print();
+    assert!(tries.loads(0) > 1_000 && tries.loads(11) > 1_000);
 }
 
 #[test]
 fn every_length_of_what_is_there() {
-    let mut random = Random::new(24);
-    for length in (0..=70).chain([127, 128, 136, 255, 256, 1_000, 66_000]) {
-        let image = images::image(&mut random);
-        let mut bytes = random.bytes(length.max(IMAGE_SIZE));
-        let start = bytes.len() - IMAGE_SIZE;
-        bytes[start..].copy_from_slice(&image);
-        // Cut from the front, the trailer stays at the end.
-        let from_front = &bytes[bytes.len() - length..];
-        let refusal = try_image(&mut random, from_front);
-        assert_eq!(refusal, if length < IMAGE_SIZE { 10 } else { 0 });
-        // Cut from the end, there is no trailer.
-        bytes.truncate(length);
-        try_image(&mut random, &bytes);
-        bytes.push(0);
-        assert_eq!(try_image(&mut random, &bytes), 10);
+    let mut tries = ImageTries::new(24);
+    for edition in Edition::ALL {
+        for length in (0..=80).chain([127, 128, 136, 144, 255, 256, 1_000, 66_000]) {
+            let size = edition.image_size();
+            let image = images::image_of(&mut tries.random, edition);
+            let mut bytes = tries.random.bytes(length.max(size));
+            let start = bytes.len() - size;
+            bytes[start..].copy_from_slice(&image);
+            // Cut from the front, the trailer stays at the end.
+            let from_front = &bytes[bytes.len() - length..];
+            let refusal = tries.image(from_front);
+            assert_eq!(refusal, if length < size { 10 } else { 0 });
+            // Cut from the end, there is no trailer.
+            bytes.truncate(length);
+            tries.image(&bytes);
+            bytes.push(0);
+            assert_eq!(tries.image(&bytes), 10);
+        }
     }
 }
 
 #[test]
-fn wrong_trailers() {
-    let mut random = Random::new(25);
-    for distance in (0..=200).chain([60 + 256, 0x3C00, 0xFFFF]) {
-        let mut image = images::image(&mut random);
-        image[60..62].copy_from_slice(&u16::to_le_bytes(distance));
-        let bytes = images::behind(&mut random, &image);
-        let refusal = try_image(&mut random, &bytes);
-        assert_eq!(refusal, if distance == 60 { 0 } else { 10 });
+fn wrong_distances() {
+    let mut tries = ImageTries::new(25);
+    for edition in Edition::ALL {
+        let right = edition.body_size() as u16;
+        for distance in (0..=200).chain([60 + 256, 64 + 256, 0x3C00, 0x4000, 0xFFFF]) {
+            let image = images::image_of(&mut tries.random, edition);
+            let body = &image[..edition.body_size()];
+            let trailer = Trailer {
+                distance,
+                ..Trailer::of(edition, body)
+            };
+            let bytes = images::behind(&mut tries.random, &trailer.behind(body));
+            let refusal = tries.image(&bytes);
+            assert_eq!(refusal, if distance == right { 0 } else { 10 });
+        }
     }
-    for swapped in [(60, 61), (62, 63), (65, 66), (66, 67), (64, 65)] {
+}
+
+#[test]
+fn trailer_bytes_swapped() {
+    let mut tries = ImageTries::new(29);
+    for (one, other) in [(64, 65), (66, 67), (69, 70), (70, 71), (68, 69)] {
         let mut state = Controller::fresh(Settings::ORDINARY);
         state.ram[1] = 7;
         let mut image = save(&state);
-        image.swap(swapped.0, swapped.1);
-        assert_eq!(try_image(&mut random, &image), 10);
+        image.swap(one, other);
+        assert_eq!(tries.image(&image), 10);
+        let mut image = images::as_edition_1(&state);
+        image.swap(one - 4, other - 4);
+        assert_eq!(tries.image(&image), 10);
     }
 }
 
-/// Bit 7 of every body byte changed alone moves the sum by 80h or 8000h; a
-/// pair of such changes can leave it as it was.
+/// Two words of the body in each other's place leave the sum as it was.
 #[test]
 fn changes_that_leave_the_sum() {
-    let mut random = Random::new(26);
-    for _ in 0..2_000 * rounds() {
-        let mut image = images::image(&mut random);
-        let (one, other) = (2 * random.below(30), 2 * random.below(30));
-        image.swap(one, other);
-        image.swap(one + 1, other + 1);
-        let refusal = try_image(&mut random, &image);
+    let mut tries = ImageTries::new(26);
+    for number in 0..4_000 * rounds() {
+        let edition = Edition::ALL[number % 2];
+        let mut image = images::image_of(&mut tries.random, edition);
+        let words = edition.body_size() / 2;
+        let (one, other) = (tries.random.below(words), tries.random.below(words));
+        image.swap(2 * one, 2 * other);
+        image.swap(2 * one + 1, 2 * other + 1);
+        let refusal = tries.image(&image);
         assert!(refusal == 0 || refusal == 11);
+    }
+}
+
+/// Any sixteen bits in the place of the sum.
+#[test]
+fn every_wrong_sum() {
+    let mut tries = ImageTries::new(28);
+    for edition in Edition::ALL {
+        let image = images::image_of(&mut tries.random, edition);
+        let body = &image[..edition.body_size()];
+        let right = Trailer::of(edition, body);
+        for sum in 0..=u16::MAX {
+            let changed = Trailer { sum, ..right }.behind(body);
+            let found = compare::find(&changed) != 0;
+            assert_eq!(found, sum == right.sum, "{sum:04X}");
+        }
+        assert_eq!(tries.image(&image), 0);
     }
 }

@@ -3,15 +3,17 @@
 use differential::both::Both;
 use differential::coverage::Coverage;
 use differential::event::{Event, kind};
+use differential::given::Given;
 use differential::images;
 use differential::lists;
 use differential::random::Random;
 use differential::refusals::{self, Refusals};
-use differential::reloads::ordinary_rest;
 use differential::rounds::rounds;
 use differential::under_settings::{locks, seed, thinned};
 use differential::walks::walk;
-use model::{Controller, Device, EVENT_SIZE, IMAGE_SIZE, Pending, Settings, TABLE_PLACE, mode};
+use model::{
+    BODY_SIZE, Controller, Device, EVENT_SIZE, IMAGE_SIZE, Pending, Settings, TABLE_PLACE, mode,
+};
 
 const WALKED_EVENTS: usize = 600_000;
 const DRAWN_STATES: usize = 3_000;
@@ -167,7 +169,6 @@ fn refused_lists_leave_the_state(settings: Settings) {
     }
 }
 
-/// All but what stands behind the body, which a load makes ordinary.
 fn what_is_saved_begins_with_the_body_and_is_loaded_again(settings: Settings) {
     let mut random = Random::new(seed(settings, 67));
     for _ in 0..DRAWN_STATES * rounds() {
@@ -175,11 +176,10 @@ fn what_is_saved_begins_with_the_body_and_is_loaded_again(settings: Settings) {
         let both = Both::of(&mut random, &state);
         let room = IMAGE_SIZE + random.pick(&[0, 0, 1, 32]);
         let saved = both.save(&mut random, room);
-        assert_eq!(saved[..60], both.bytes()[..60]);
+        assert_eq!(saved[..BODY_SIZE], both.bytes()[..BODY_SIZE]);
         let mut other = Both::started(&mut random, settings);
-        assert_eq!(other.load(&saved), 0);
-        assert_eq!(other.bytes()[..60], both.bytes()[..60]);
-        assert_eq!(other.bytes()[60..], ordinary_rest());
+        assert_eq!(other.load(Given::again(&settings), &saved), 0);
+        assert_eq!(other.bytes(), both.bytes());
     }
 }
 
@@ -269,7 +269,8 @@ fn a_dropped_code_leaves_zeros(settings: Settings) {
             assert_no_code(&both, "a load cut short");
         }
         let mut both = with_code(&mut random, settings, length, true);
-        assert_eq!(both.load(&model::save(&Controller::fresh(settings))), 0);
+        let fresh = model::save(&Controller::fresh(settings));
+        assert_eq!(both.load(Given::again(&settings), &fresh), 0);
         assert_no_code(&both, "another state loaded");
     }
     let mut both = with_code(&mut random, settings, 16, false);

@@ -7,16 +7,14 @@ use differential::both::Both;
 use differential::compare::{self, Room};
 use differential::event::{Event, kind};
 use differential::few_keys;
+use differential::given::Given;
 use differential::keys;
 use differential::mismatch_coverage::MismatchCoverage;
 use differential::random::Random;
 use differential::rounds::rounds;
 use differential::typist::{self, Typist};
 use differential::under_settings::{locks, seed, thinned};
-use model::{
-    BODY_SIZE, Controller, EVENT_SIZE, IMAGE_SIZE, STATE_SIZE, Settings, Verdict, judge, mode,
-    save, state_bytes, translate,
-};
+use model::{Controller, EVENT_SIZE, IMAGE_SIZE, Settings, save, state_bytes};
 
 const WALKED_EVENTS: usize = 150_000;
 const LISTED_EVENTS: usize = 300_000;
@@ -219,8 +217,7 @@ fn long_codes(random: &mut Random) -> Vec<Vec<u8>> {
     codes
 }
 
-/// By a load where the settings are the ordinary ones, and by a run from the
-/// image.
+/// By a load, and by a run from the image.
 fn long_codes_from_every_position(settings: Settings) {
     let mut random = Random::new(seed(settings, 135));
     let mut kept = [0; 16];
@@ -254,7 +251,8 @@ fn kept_at_a_mismatch(state: &Controller, key: u8) -> Option<usize> {
 fn run_image(random: &mut Random, state: &Controller, key: u8) {
     let list = [Event::key(key), Event::read()].map(Event::to_bytes);
     let room = Room::enough(random, list.as_flattened());
-    let written = compare::run_image(random, &save(state), list.as_flattened(), room);
+    let given = Given::again(&state.settings);
+    let written = compare::run_image(random, given, &save(state), list.as_flattened(), room);
     assert_eq!(written.refusal, 0);
 }
 
@@ -286,33 +284,8 @@ fn positions_that_no_keys_reach(settings: Settings) {
     assert!(kept > 40, "{kept}");
 }
 
-/// An event that does the same to a body under all settings.
-fn of_keyboard(event: Event) -> bool {
-    matches!(
-        event.kind,
-        kind::KEYBOARD_FRAME | kind::READ_DATA | kind::PINS
-    )
-}
-
-/// What an event is to a controller with the built-in table that has been loaded
-/// of this one: where the byte of a key is translated, a key that gives the same
-/// code, if there is one.
-fn by_built_in_table(state: &Controller, event: Event) -> Option<Event> {
-    let translated = state.locked || state.mode(mode::TRANSLATE);
-    match judge(event.value) {
-        Verdict::Sound(byte) if event.kind == kind::KEYBOARD_FRAME && translated => {
-            let given = state.settings.table.translate(byte, false);
-            let mut keys = [byte].into_iter().chain(0x00..=0xFF);
-            keys.find(|&key| translate(key, false) == given)
-                .map(Event::key)
-        }
-        _ => Some(event),
-    }
-}
-
-/// Goes on with what was saved and with what was loaded of it. A load gives the
-/// ordinary settings, so under others the bodies alone are compared, and the
-/// keyboard alone is typed on. True when the lock opens.
+/// Goes on with what was saved and with what was loaded of it. True when the lock
+/// opens.
 fn go_on_together(
     random: &mut Random,
     typist: &mut Typist,
@@ -320,21 +293,12 @@ fn go_on_together(
     loaded: &mut Both,
 ) -> bool {
     let mut opened = false;
-    let ordinary = saved.model.settings == Settings::ORDINARY;
-    let compared = if ordinary { STATE_SIZE } else { BODY_SIZE };
     for _ in 0..40 {
         let event = typist.next(&saved.model);
-        let Some(same) = by_built_in_table(&saved.model, event) else {
-            continue;
-        };
-        if !ordinary && !of_keyboard(event) {
-            continue;
-        }
         let was_locked = saved.model.locked;
         let answer = saved.event(random, event);
-        let other = loaded.event(random, same);
-        assert!(!ordinary || answer == other, "{event:?}");
-        assert_eq!(saved.bytes()[..compared], loaded.bytes()[..compared]);
+        assert_eq!(loaded.event(random, event), answer, "{event:?}");
+        assert_eq!(saved.bytes(), loaded.bytes());
         opened |= was_locked && !saved.model.locked;
     }
     opened
@@ -354,7 +318,7 @@ fn a_loaded_lock_goes_on_as_the_one_that_was_saved(settings: Settings) {
         coverage.note_save(&saved.model);
         let image = saved.save(&mut random, IMAGE_SIZE);
         let mut loaded = Both::started(&mut random, settings);
-        assert_eq!(loaded.load(&image), 0);
+        assert_eq!(loaded.load(Given::again(&settings), &image), 0);
         let mismatched = saves < coverage.saved;
         let opens = go_on_together(&mut random, &mut typist, &mut saved, &mut loaded);
         opened += usize::from(opens && mismatched);

@@ -5,10 +5,11 @@ use differential::both::Both;
 use differential::compare::{self, Room};
 use differential::event::{Event, kind};
 use differential::fenced::Fenced;
+use differential::given::Given;
 use differential::guarded::Guarded;
 use differential::images;
 use differential::random::Random;
-use differential::reloads::{assert_goes_on_as_a_run, ordinary_rest, refused_images, rest};
+use differential::reloads::{refused_images, rest};
 use differential::starts;
 use differential::under_settings::{AT_MODE, AT_MODE_AND_MOUSE_LOCK, MOUSE_LOCK, all};
 use model::{Controller, IMAGE_SIZE, Settings, state_bytes};
@@ -45,7 +46,7 @@ fn only_three_bits_of_the_options_start_anything() {
 
 #[test]
 fn the_library_tells_its_version_and_the_size_of_a_state() {
-    assert_eq!(calugnid::library_version(), 2);
+    assert_eq!(calugnid::library_version(), 3);
     assert_eq!(calugnid::state_bytes(), calugnid::STATE_SIZE);
 }
 
@@ -113,26 +114,23 @@ fn lines(both: &Both) -> [u8; 2] {
 }
 
 #[test]
-fn a_save_leaves_at_mode_out_and_a_load_ends_it() {
+fn a_load_restores_at_mode() {
     let mut random = Random::new(98);
     for settings in IN_AT_MODE {
-        let mut both = timed_out(&mut random, settings);
+        let saved = timed_out(&mut random, settings).save(&mut random, IMAGE_SIZE);
+        let mut both = Both::started(&mut random, MOUSE_LOCK);
+        assert_eq!(both.load(Given::again(&settings), &saved), 0);
+        assert_eq!(both.bytes()[60..], rest_in_at_mode(settings));
         both.look(&mut random);
         assert_eq!(lines(&both), [0x30, 0xA1]);
-        let saved = both.save(&mut random, IMAGE_SIZE);
-        assert_eq!(both.bytes()[60..], rest_in_at_mode(settings));
-        assert_eq!(both.load(&saved), 0);
-        assert_eq!(both.bytes()[60..], ordinary_rest());
-        both.look(&mut random);
-        // The latch of P20 is in the body; the mouse is off.
-        assert_eq!(lines(&both), [0x10, 0x09]);
         let answer = both.event(&mut random, Event::mouse(0x14));
-        assert_eq!(answer[0], 5);
+        assert_eq!(answer[0], 12);
     }
 }
 
+/// A9h is an unknown command there, so the old byte is read.
 #[test]
-fn a_run_from_an_image_is_in_ps2_mode() {
+fn a_run_from_an_image_is_in_at_mode() {
     let mut random = Random::new(99);
     let list = [Event::command(0xA9), Event::read()].map(Event::to_bytes);
     for settings in IN_AT_MODE {
@@ -142,20 +140,10 @@ fn a_run_from_an_image_is_in_ps2_mode() {
             answers: 18,
             saved: IMAGE_SIZE,
         };
-        let written = compare::run_image(&mut random, &saved, list.as_flattened(), room);
-        assert_eq!(written.answers[3..5], [0x19, 0x09]);
-        assert_eq!(written.answers[10..12], [0x00, 0]);
-    }
-}
-
-/// A controller in PS/2 mode that loads what one in AT mode saved goes on as a
-/// run of the image does.
-#[test]
-fn a_load_goes_on_as_a_run_of_the_image() {
-    let mut random = Random::new(100);
-    for number in 0..500 {
-        let state = images::state(&mut random, IN_AT_MODE[number % 2]);
-        assert_goes_on_as_a_run(&mut random, &state);
+        let given = Given::version(settings.version);
+        let written = compare::run_image(&mut random, given, &saved, list.as_flattened(), room);
+        assert_eq!(written.answers[3..5], [0x38, 0xA1]);
+        assert_eq!(written.answers[10..12], [0xFE, 1]);
     }
 }
 
@@ -176,18 +164,23 @@ fn puts_mouse_byte(both: &mut Both, random: &mut Random) -> bool {
 }
 
 #[test]
-fn a_save_leaves_the_mouse_lock_out_and_a_load_ends_it() {
+fn a_load_restores_the_mouse_lock_or_its_absence() {
     let mut random = Random::new(93);
     let mut both = turned(&mut random);
     let saved = both.save(&mut random, IMAGE_SIZE);
-    assert!(!puts_mouse_byte(&mut both, &mut random));
-    assert_eq!(both.load(&saved), 0);
+    let mut without = both.model.clone();
+    without.settings = Settings::ORDINARY;
+    let given = Given::again(&MOUSE_LOCK);
+    assert_eq!(both.load(given, &model::save(&without)), 0);
     assert_eq!(both.bytes()[60], calugnid::ORDINARY);
     assert!(puts_mouse_byte(&mut both, &mut random));
+    assert_eq!(both.load(given, &saved), 0);
+    assert_eq!(both.bytes()[60], calugnid::MOUSE_LOCK);
+    assert!(!puts_mouse_byte(&mut both, &mut random));
 }
 
 #[test]
-fn a_run_from_an_image_has_no_mouse_lock() {
+fn a_run_from_an_image_has_the_mouse_lock() {
     let mut random = Random::new(94);
     let saved = turned(&mut random).save(&mut random, IMAGE_SIZE);
     let list = Event::mouse(0x14).to_bytes();
@@ -195,8 +188,10 @@ fn a_run_from_an_image_has_no_mouse_lock() {
         answers: 9,
         saved: IMAGE_SIZE,
     };
-    let written = compare::run_image(&mut random, &saved, &list, room);
-    assert_eq!(written.answers[3] & 0x21, 0x21);
+    let given = Given::version(0);
+    let written = compare::run_image(&mut random, given, &saved, &list, room);
+    assert_eq!(written.answers[3] & 0x21, 0);
+    assert_eq!(written.saved[60], calugnid::MOUSE_LOCK);
 }
 
 #[test]
@@ -204,11 +199,11 @@ fn a_refused_load_keeps_the_mouse_lock() {
     let mut random = Random::new(95);
     for image in refused_images(&mut random) {
         let mut both = turned(&mut random);
-        assert_ne!(both.load(&image), 0);
-        assert_eq!(both.bytes()[60], calugnid::MOUSE_LOCK);
+        for bytes in [&image[..], &image[1..]] {
+            assert_ne!(both.load(Given::version(0), bytes), 0);
+            assert_eq!(both.bytes()[60], calugnid::MOUSE_LOCK);
+        }
         assert!(!puts_mouse_byte(&mut both, &mut random));
-        assert_ne!(both.load(&image[1..]), 0);
-        assert_eq!(both.bytes()[60], calugnid::MOUSE_LOCK);
     }
 }
 
@@ -218,10 +213,10 @@ fn a_refused_load_keeps_at_mode_its_latches_and_its_time_out() {
     for settings in IN_AT_MODE {
         for image in refused_images(&mut random) {
             let mut both = timed_out(&mut random, settings);
-            assert_ne!(both.load(&image), 0);
-            assert_eq!(both.bytes()[60..], rest_in_at_mode(settings));
-            assert_ne!(both.load(&image[1..]), 0);
-            assert_eq!(both.bytes()[60..], rest_in_at_mode(settings));
+            for bytes in [&image[..], &image[1..]] {
+                assert_ne!(both.load(Given::version(0), bytes), 0);
+                assert_eq!(both.bytes()[60..], rest_in_at_mode(settings));
+            }
             assert_eq!(both.event(&mut random, Event::mouse(0x14))[0], 12);
         }
     }

@@ -1,42 +1,23 @@
-//! The saved image: the body and the trailer that closes it.
+//! Saves and loads.
 
-use crate::body::{BODY_SIZE, decode, encode};
+use crate::body::{BODY_SIZE, Body};
 use crate::body_rules::keeps_body_rules;
 use crate::controller::Controller;
+use crate::decode::decode;
+use crate::edition::Edition;
+use crate::encode::encode;
+use crate::key_table::KeyTable;
+use crate::moves::completed;
+use crate::trailer::{find, seal};
 
-pub const IMAGE_SIZE: usize = BODY_SIZE + TRAILER_SIZE;
-const TRAILER_SIZE: usize = 8;
-const EDITION: u8 = 1;
-const MARK: [u8; 3] = [0x4B, 0x42, 0x43];
-
-/// The sum of a body's little-endian words.
-pub fn word_sum(body: &[u8]) -> u16 {
-    body.chunks_exact(2).fold(0, |sum: u16, word| {
-        sum.wrapping_add(u16::from_le_bytes([word[0], word[1]]))
-    })
-}
-
-fn trailer(body: &[u8]) -> [u8; TRAILER_SIZE] {
-    let distance = (BODY_SIZE as u16).to_le_bytes();
-    let sum = word_sum(body).to_le_bytes();
-    [
-        distance[0],
-        distance[1],
-        sum[0],
-        sum[1],
-        EDITION,
-        MARK[0],
-        MARK[1],
-        MARK[2],
-    ]
-}
+/// What a save writes.
+pub const IMAGE_SIZE: usize = Edition::Second.image_size();
+/// An image of edition 1.
+pub const EDITION_1_SIZE: usize = Edition::First.image_size();
 
 pub fn save(state: &Controller) -> [u8; IMAGE_SIZE] {
-    let body = encode(state);
-    let mut image = [0; IMAGE_SIZE];
-    image[..BODY_SIZE].copy_from_slice(&body);
-    image[BODY_SIZE..].copy_from_slice(&trailer(&body));
-    image
+    let image = seal(Edition::Second, &encode(state));
+    image.try_into().expect("a body and its trailer")
 }
 
 /// Saves to the front of a buffer; refusal 9 writes nothing.
@@ -50,23 +31,29 @@ pub fn store(state: &Controller, saved: &mut [u8]) -> u8 {
     }
 }
 
-/// The body inside `bytes`, which end in an image; empty when the trailer does
-/// not fit.
-pub fn find(bytes: &[u8]) -> &[u8] {
-    let nothing = &bytes[bytes.len()..];
-    if bytes.len() < IMAGE_SIZE {
-        return nothing;
-    }
-    let image = &bytes[bytes.len() - IMAGE_SIZE..];
-    let (body, end) = image.split_at(BODY_SIZE);
-    if end == trailer(body) { body } else { nothing }
+/// The state in an image of either edition, with the version byte given and the
+/// built-in table, or the refusal number 10 or 11.
+pub fn load(version: u8, image: &[u8]) -> Result<Controller, u8> {
+    load_with_table(version, &KeyTable::BUILT_IN.0, image)
 }
 
-/// The state in an image, or the refusal number 10 or 11.
-pub fn load(bytes: &[u8]) -> Result<Controller, u8> {
-    let body: &[u8; BODY_SIZE] = find(bytes).try_into().map_err(|_| 10)?;
-    if keeps_body_rules(body) {
-        Ok(decode(body))
+/// The same with a table, which is looked at last, by 13 to 15.
+pub fn load_with_table(version: u8, table: &[u8], image: &[u8]) -> Result<Controller, u8> {
+    let body = body_of_either(image)?;
+    let table = KeyTable::checked(table)?;
+    Ok(decode(&body, version, table))
+}
+
+/// The body in an image, that of edition 1 as a move makes it. It keeps the rules.
+fn body_of_either(image: &[u8]) -> Result<Body, u8> {
+    let found = find(image);
+    let body = match found.len() {
+        0 => return Err(10),
+        BODY_SIZE => found.try_into().expect("a body of edition 2"),
+        _ => completed(found.try_into().expect("a body of edition 1")),
+    };
+    if keeps_body_rules(&body) {
+        Ok(body)
     } else {
         Err(11)
     }

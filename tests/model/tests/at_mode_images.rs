@@ -2,9 +2,8 @@
 
 mod host;
 
-use host::saved::assert_fresh_is_saved_as_ordinary;
 use host::{Host, IN_AT_MODE};
-use model::{Settings, run_image, save, state_bytes};
+use model::{Settings, run_image, save};
 
 /// Each part that only AT mode has differs from fresh.
 fn changed(settings: Settings) -> Host {
@@ -12,49 +11,44 @@ fn changed(settings: Settings) -> Host {
     host.command_with(0xD1, 0x21);
     host.data(0xED);
     host.timed_out();
-    assert_eq!(
-        state_bytes(&host.state)[60..65],
-        [settings.options(), 0x3F, 0x08, 0x01, 0]
-    );
     host
 }
 
 #[test]
-fn a_load_gives_ps2_mode_with_fresh_latches_and_no_time_out() {
+fn a_load_restores_the_mode_its_latches_and_the_time_out() {
     for settings in IN_AT_MODE {
-        let loaded = changed(settings).loaded_as_ordinary();
-        // P20 is in the body, so its latch is kept.
-        assert_eq!(loaded.state.lines()[4] & 0x03, 0x01);
+        let host = changed(settings);
+        let image = save(&host.state);
+        assert_eq!(image[60..64], [settings.options(), 0x3F, 0x08, 0x01]);
+        let mut restored = host.restored();
+        let answer = restored.status();
+        assert_eq!((answer.status, answer.port), (0x31, 0xA1));
+        assert_eq!(restored.event(5, 0x628).refusal, 12);
     }
 }
 
 /// The receive time-out stands where TERR does.
 #[test]
-fn the_receive_time_out_and_parity_are_in_the_body() {
+fn the_receive_time_out_and_parity_are_in_the_flags() {
     for (frame, flag) in [(1022, 0x08), (0x428, 0x10)] {
         let mut host = Host::ready_under(Settings::AT_MODE);
         host.keyboard_frame(frame);
         host.read();
-        assert_eq!(save(&host.state)[1] & 0x18, flag);
+        let image = save(&host.state);
+        assert_eq!((image[1] & 0x18, image[63]), (flag, 0));
     }
-    let host = changed(Settings::AT_MODE);
-    assert_eq!(save(&host.state)[1] & 0x18, 0);
+    let image = save(&changed(Settings::AT_MODE).state);
+    assert_eq!((image[1] & 0x18, image[63]), (0, 1));
 }
 
 #[test]
-fn a_run_from_an_image_is_in_ps2_mode() {
+fn a_run_from_an_image_is_in_at_mode() {
     let image = save(&changed(Settings::AT_MODE).state);
     let mut answers = [0; 18];
-    let mut saved = [0; 68];
+    let mut saved = [0; 72];
     // A byte to the keyboard times out, over the FEh that waits.
     let list = [1, 0xED, 0, 7, 0, 0];
-    assert_eq!(run_image(&image, &list, &mut answers, &mut saved), 0);
-    assert_eq!(answers[9..], [0, 0, 0, 0x51, 0x09, 0, 0, 0, 0]);
-}
-
-#[test]
-fn what_at_mode_adds_is_kept_by_no_image() {
-    for settings in Settings::ALL {
-        assert_fresh_is_saved_as_ordinary(settings);
-    }
+    assert_eq!(run_image(0, &image, &list, &mut answers, &mut saved), 0);
+    assert_eq!(answers[9..], [0, 0, 0, 0x31, 0xA1, 0, 0, 0, 0]);
+    assert_eq!(saved, image);
 }

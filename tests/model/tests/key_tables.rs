@@ -5,7 +5,9 @@ mod host;
 
 use host::Host;
 use host::tables::{FIXED, reversed};
-use model::{Controller, KeyTable, Settings, mode, run_with_table, state_bytes, table_refusal};
+use model::{
+    Controller, KeyTable, Settings, load, mode, run_with_table, save, state_bytes, table_refusal,
+};
 
 /// What refuses a table with one entry changed.
 fn refusal_with(changes: &[(usize, u8)]) -> u8 {
@@ -200,11 +202,18 @@ fn the_lock_goes_by_the_table() {
     }
 }
 
+/// An image has no place for a table, so it is given again or is the built-in
+/// one.
 #[test]
-fn a_load_gives_the_built_in_table() {
+fn a_load_goes_by_the_table_that_it_is_given() {
     let mut host = ready();
     host.key(0x62);
-    let mut loaded = host.loaded_as_ordinary();
+    let mut restored = host.restored();
+    assert_eq!(restored.read().byte, 0x1E);
+    assert_eq!(read_for(&mut restored, 0x62), Some(0x1E));
+    let state = load(0, &save(&host.state)).expect("an image");
+    assert_eq!(state.settings.table, KeyTable::BUILT_IN);
+    let mut loaded = Host { state };
     assert_eq!(loaded.read().byte, 0x1E);
     assert_eq!(read_for(&mut loaded, 0x1C), Some(0x1E));
 }

@@ -270,7 +270,7 @@ fn keys_before_locking_are_not_counted() {
 
 fn loaded(host: &Host) -> Host {
     Host {
-        state: load(&save(&host.state)).expect("an image"),
+        state: load(0, &save(&host.state)).expect("an image"),
     }
 }
 

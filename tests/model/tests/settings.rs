@@ -32,13 +32,13 @@ fn every_choice_is_listed_once() {
 }
 
 #[test]
-fn state_bytes_are_the_body_the_options_the_rest_and_the_table() {
+fn state_bytes_are_the_body_the_version_byte_and_the_table() {
     for settings in Settings::ALL {
         for version in 0..=0xFF {
             let fresh = Controller::fresh(settings.with_version(version));
             let bytes = state_bytes(&fresh);
             assert_eq!(bytes.len(), 321);
-            assert_eq!(bytes[..60], encode(&fresh));
+            assert_eq!(bytes[..64], encode(&fresh));
             let rest = [settings.options(), 0x3F, 0x03, 0, version];
             assert_eq!(bytes[60..65], rest);
             assert_eq!(bytes[65..], KeyTable::BUILT_IN.0);
@@ -46,7 +46,8 @@ fn state_bytes_are_the_body_the_options_the_rest_and_the_table() {
     }
 }
 
-/// What no body has a place for stands behind it, each part in bits of its own.
+/// What only a mode or a set has stands at the body's end, each part in bits of
+/// its own.
 #[test]
 fn each_latch_the_leave_and_the_time_out_has_its_bit() {
     let fresh = Controller::fresh(Settings::SECOND_SET_IN_AT_MODE.with_version(0x99));
@@ -116,10 +117,11 @@ fn no_event_changes_the_settings() {
 }
 
 #[test]
-fn an_image_has_no_place_for_the_settings() {
+fn an_image_keeps_the_mouse_lock() {
     let mut host = Host::ready_under(Settings::MOUSE_LOCK.with_version(0x42));
     host.pins(0x7F);
-    host.loaded_as_ordinary();
+    let mut restored = host.restored();
+    assert_eq!(restored.mouse(0x14).status & 0x21, 0);
 }
 
 /// The mouse on, the key switch turned, a sound mouse frame.

@@ -1,5 +1,5 @@
-//! The rules for what a body has no place for: each broken alone, and kept by
-//! events.
+//! The rules for what only a mode or a set has, by parts of a state: each broken
+//! alone, and kept by events.
 
 mod host;
 

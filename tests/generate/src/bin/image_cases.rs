@@ -1,13 +1,15 @@
-//! Prints what saves and loads at their edges give, from the model: a name, the refusal, and the sum of the bytes that came of it.
+//! Prints what saves, loads and moves at their edges give, from the model: a name, the refusal, and the sum of the bytes that came of it.
 
-use model::{Controller, IMAGE_SIZE, Settings, find, load, save};
+use model::{
+    BODY_SIZE, Body, Controller, EDITION_1_BODY_SIZE, EDITION_1_SIZE, Edition, IMAGE_SIZE,
+    Settings, find, load, move_to_edition_1, move_to_edition_2, save, seal, store,
+};
 
 const FILL: u8 = 0xEE;
-
-type Image = [u8; IMAGE_SIZE];
+const VERSION: u8 = 0x5A;
 
 /// Bytes of a body and the values that they take.
-const TRIED: [[u8; 4]; 43] = [
+const TRIED: [[u8; 4]; 55] = [
     [1, 0, 1, 0],
     [1, 3, 1, 3],
     [1, 128, 1, 128],
@@ -51,35 +53,51 @@ const TRIED: [[u8; 4]; 43] = [
     [28, 128, 28, 128],
     [28, 255, 28, 255],
     [59, 255, 59, 255],
+    [60, 16, 60, 16],
+    [60, 11, 60, 11],
+    [60, 15, 60, 15],
+    [60, 1, 60, 1],
+    [61, 62, 61, 62],
+    [60, 7, 61, 0],
+    [60, 7, 61, 64],
+    [62, 4, 62, 4],
+    [62, 16, 62, 16],
+    [62, 0, 62, 0],
+    [63, 0, 63, 0],
+    [63, 2, 63, 2],
 ];
 
 /// A body with something in each of its parts, and a lock code of `n` bytes.
-fn sample(n: u8) -> Image {
-    let mut image = save(&Controller::fresh(Settings::ORDINARY));
-    image[..60].fill(0);
-    image[0] = 0x41;
-    image[1] = 0b0011_0101;
-    image[2] = 0xA5;
-    image[3] = 1;
-    image[10] = n;
-    image[12..12 + n as usize].fill(0x1E);
-    image[28] = 0x65;
-    image[28 + 19] = 0x55;
-    image[28 + 31] = 0xFF;
-    summed(image)
+fn sample_body(n: u8) -> Body {
+    let mut body = [0; BODY_SIZE];
+    body[0] = 0x41;
+    body[1] = 0b0011_0101;
+    body[2] = 0xA5;
+    body[3] = 1;
+    body[10] = n;
+    body[12..12 + usize::from(n)].fill(0x1E);
+    body[28] = 0x65;
+    body[28 + 19] = 0x55;
+    body[28 + 31] = 0xFF;
+    body[60..].copy_from_slice(&[3, 0x3F, 0x0A, 1]);
+    body
 }
 
-fn summed(mut image: Image) -> Image {
-    let sum = image[..60].chunks(2).fold(0u16, |sum, pair| {
-        sum.wrapping_add(u16::from_le_bytes([pair[0], pair[1]]))
-    });
-    image[62..64].copy_from_slice(&sum.to_le_bytes());
-    image
+fn sealed(body: &Body) -> Vec<u8> {
+    seal(Edition::Second, body)
 }
 
-fn with_byte(mut image: Image, at: u8, value: u8) -> Image {
-    image[at as usize] = value;
-    image
+fn sample(n: u8) -> Vec<u8> {
+    sealed(&sample_body(n))
+}
+
+fn old_sample() -> Vec<u8> {
+    seal(Edition::First, &sample_body(3)[..EDITION_1_BODY_SIZE])
+}
+
+fn with_byte(mut body: Body, at: u8, value: u8) -> Body {
+    body[usize::from(at)] = value;
+    body
 }
 
 fn added(bytes: &[u8]) -> u64 {
@@ -88,52 +106,87 @@ fn added(bytes: &[u8]) -> u64 {
 
 fn try_save(room: usize) {
     let mut out = vec![FILL; room];
-    let refusal = if room < IMAGE_SIZE { 9 } else { 0 };
-    if refusal == 0 {
-        let state = load(&sample(3)).expect("the sample is an image");
-        out[..IMAGE_SIZE].copy_from_slice(&save(&state));
-    }
+    let state = load(VERSION, &sample(3)).expect("the sample is an image");
+    let refusal = store(&state, &mut out);
     println!("save {room} {refusal} {}", added(&out));
 }
 
+/// A refused load leaves the fresh controller that was there.
 fn try_load(name: &str, bytes: &[u8]) {
-    let (refusal, state) = match load(bytes) {
+    let (refusal, state) = match load(VERSION, bytes) {
         Ok(state) => (0, state),
         Err(refusal) => (refusal, Controller::fresh(Settings::ORDINARY)),
     };
     println!("{name} {refusal} {}", added(&save(&state)));
 }
 
-fn try_places(image: Image) {
+fn try_find(name: &str, bytes: &[u8]) {
+    let body = find(bytes);
+    println!("{name} {} {}", body.len(), added(body));
+}
+
+fn try_places(image: &[u8]) {
     let mut bytes = vec![FILL; 31];
-    bytes.extend_from_slice(&image);
+    bytes.extend_from_slice(image);
     bytes.push(FILL);
-    try_load("load whole", &bytes[31..99]);
-    try_load("load short", &bytes[32..99]);
-    try_load("load behind", &bytes[..99]);
+    let end = bytes.len() - 1;
+    try_load("load whole", &bytes[31..end]);
+    try_load("load short", &bytes[32..end]);
+    try_load("load behind", &bytes[..end]);
     try_load("load before", &bytes);
-    let body = find(&bytes[..99]);
-    println!("find {} {}", body.len(), added(body));
+    try_find("find", &bytes[..end]);
+}
+
+fn try_trailer(image: &[u8]) {
+    for at in BODY_SIZE..IMAGE_SIZE {
+        let mut changed = image.to_vec();
+        changed[at] = image[at] / 2 + 99;
+        try_load(&format!("trailer {at}"), &changed);
+    }
+}
+
+fn try_bodies() {
+    for [k, v, l, w] in TRIED {
+        let changed = with_byte(with_byte(sample_body(3), k, v), l, w);
+        try_load(&format!("body {k} {v} {l} {w}"), &sealed(&changed));
+    }
+    let none = sample_body(0);
+    try_load("code none", &sealed(&none));
+    try_load("code none locked", &sealed(&with_byte(none, 1, 0x40)));
+    let most = sample_body(16);
+    try_load("code sixteen", &sealed(&most));
+    try_load("code seventeen", &sealed(&with_byte(most, 10, 17)));
+}
+
+/// Hands back the space after the move.
+fn try_move(name: &str, by: fn(&[u8], &mut [u8]) -> u8, image: &[u8], space: usize) -> Vec<u8> {
+    let mut moved = vec![FILL; space];
+    let refusal = by(image, &mut moved);
+    println!("{name} {refusal} {}", added(&moved));
+    moved
+}
+
+fn try_moves() {
+    let (old, new) = (old_sample(), sample(3));
+    let forward = |name, image, space| try_move(name, move_to_edition_2, image, space);
+    let moved = forward("forward whole", &old, IMAGE_SIZE);
+    forward("forward short", &old, IMAGE_SIZE - 1);
+    forward("forward new", &new, IMAGE_SIZE);
+    let back = |name, image, space| try_move(name, move_to_edition_1, image, space);
+    back("back whole", &moved, EDITION_1_SIZE);
+    back("back short", &moved, EDITION_1_SIZE - 1);
+    back("back settings", &new, EDITION_1_SIZE);
+    back("back old", &old, EDITION_1_SIZE);
 }
 
 fn main() {
-    for room in [67, 68, 72] {
+    for room in [71, 72, 76] {
         try_save(room);
     }
-    let image = sample(3);
-    try_places(image);
-    for at in 60..68 {
-        let value = image[at as usize] / 2 + 99;
-        try_load(&format!("trailer {at}"), &with_byte(image, at, value));
-    }
-    for [k, v, l, w] in TRIED {
-        let changed = summed(with_byte(with_byte(image, k, v), l, w));
-        try_load(&format!("body {k} {v} {l} {w}"), &changed);
-    }
-    let none = sample(0);
-    try_load("code none", &none);
-    try_load("code none locked", &summed(with_byte(none, 1, 0x40)));
-    let most = sample(16);
-    try_load("code sixteen", &most);
-    try_load("code seventeen", &summed(with_byte(most, 10, 17)));
+    try_places(&sample(3));
+    try_trailer(&sample(3));
+    try_bodies();
+    try_load("old whole", &old_sample());
+    try_find("old find", &old_sample());
+    try_moves();
 }
