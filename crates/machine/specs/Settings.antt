@@ -17,7 +17,7 @@ pub record Settings : Type 0 where
   -- the key table, an entry for each byte of scan code set 2
   pub table : List ℕ
 
--- The ordinary settings: those of a start that names nothing else, and of a load.
+-- The ordinary settings: those of a start that names nothing else.
 abbrev pub ordinary : Settings
 ordinary = record { mouseLock = false; atMode = false; secondSet = false; version = 0; table = builtIn }
 

@@ -31,6 +31,10 @@ and-failed s t e = ap (λ (x : Bool). x && t) e
 pub and-both : (s t : Bool) → s ≡ true → t ≡ true → (s && t) ≡ true
 and-both s t e f = and-passed s t e ∙ f
 
+pub and-one : (s : Bool) → (s && true) ≡ s
+and-one true = refl
+and-one false = refl
+
 pub cond-true : {A : Type 0} (s : Bool) (x y : A) → s ≡ true → cond s x y ≡ x
 cond-true s x y e = ap (λ (b : Bool). cond b x y) e
 

@@ -1,5 +1,5 @@
 -- Laws of the definitions in specs/Rules and specs/Added. Assumes nothing.
-use mathlib.Core.Path.{_≡_, refl, ap, sym, subst, _∙_}
+use mathlib.Core.Path.{_≡_, refl, ap, _∙_}
 use mathlib.Core.Bool.{Bool, true, false, cond, not, _&&_}
 use mathlib.Core.List.{List, [], _∷_, _++_}
 use Prim.Native.Nat.{ℕ, zero, suc, _+_, _≤_, _<_}
@@ -9,14 +9,14 @@ use native.Mathlib.Numerals.{add-one}
 use lib.ListN.{length, getD, take, drop, replicate, drop-of-length-le}
 use lib.Dec.{eqb, leb, ltb}
 use borrow.Author.Tests.{lt-ltb, le-leb, eq-eqb, ne-eqb, ltb-true, leb-true, eqb-true, eqb-false, not-true}
-use lib.Seq.{drop-cons, take-all}
+use lib.Seq.{drop-cons}
 use Rattle.translation.specs.Bits.{has}
 use Rattle.body_rules.specs.Body.{flagsByte, latchesByte, pendingByte, cellByte, overlayByte, nibbleByte, sentToByte, sentByte}
 use Rattle.body_rules.specs.Body.{lengthByte, positionByte, codeBytes, modeByte, optionsByte, inputLatchesByte, highLatchesByte, timeOutByte}
 use Rattle.body_rules.specs.Added.{atMode, secondSet, highAllowed, unusedKept, firstSetKept, ps2Kept, secondSetKept, addedKept}
 use Rattle.body_rules.specs.Rules.{every, isZero, nonzero}
 use Rattle.body_rules.specs.Rules.{flagsKept, latchesKept, pendingKept, overlayKept, sendingKept, codeKept, lockKept, modeKept, commonKept, bodyKept}
-use Rattle.translation.proofs.Lists.{listed, take-listed, front}
+use Rattle.translation.proofs.Lists.{front}
 use Rattle.translation.proofs.Tests.{split, and-true, and-passed, and-failed, and-both, cond-shows, cond-passes}
 
 -- ---- every
@@ -234,14 +234,3 @@ module _ (b : List ℕ) where
 pub bodyKept-front : (b rest : List ℕ) → length b ≡ 64 → bodyKept (b ++ rest) ≡ bodyKept b
 unfolding bodyKept commonKept flagsKept pendingKept overlayKept sendingKept codeKept lockKept addedKept unusedKept firstSetKept ps2Kept secondSetKept
 bodyKept-front b rest long = front 64 (λ (l : List ℕ). bodyKept (l ++ rest) ≡ bodyKept l) b (omega arith) refl
-
--- behind a body of edition 1 the four bytes that it has not keep their rules, so that its own are left
-and-one : (s : Bool) → (s && true) ≡ s
-and-one true = refl
-and-one false = refl
-
-pub bodyKept-first : (b : List ℕ) → length b ≡ 60 → bodyKept (b ++ 0 ∷ 0x3F ∷ 3 ∷ 0 ∷ []) ≡ commonKept b
-unfolding bodyKept commonKept flagsKept pendingKept overlayKept sendingKept codeKept lockKept addedKept unusedKept firstSetKept ps2Kept secondSetKept
-bodyKept-first b long =
-    let whole : listed 0 60 b ≡ b = sym (take-listed 0 60 b (omega arith)) ∙ take-all 60 b (omega arith) in
-    subst (λ (l : List ℕ). bodyKept (l ++ 0 ∷ 0x3F ∷ 3 ∷ 0 ∷ []) ≡ commonKept l) whole (and-one (commonKept (listed 0 60 b)))

@@ -1,5 +1,5 @@
 -- Laws of the definitions in specs/Read, and the promised record for each way through the call. Assumes nothing.
-use mathlib.Core.Path.{_≡_, refl, ap, sym, _∙_}
+use mathlib.Core.Path.{_≡_, refl, ap, sym, subst, _∙_}
 use mathlib.Core.Bool.{Bool, true, false, not}
 use mathlib.Core.List.{List, _++_, append-nil}
 use Prim.Native.Nat.{ℕ, _≤_}
@@ -7,14 +7,15 @@ use native.Mathlib.Omega.{arith}
 use lib.ListN.{length, drop, set, replicate, length-append}
 use lib.Seq.{take-at, take-all}
 use borrow.Author.Tests.{eq-eqb, ne-eqb, not-true, not-false}
-use Rattle.translation.proofs.Tests.{split, cond-true, cond-false}
+use Rattle.translation.proofs.Tests.{split, and-one, cond-true, cond-false}
+use Rattle.translation.proofs.Lists.{listed, take-listed}
 use Rattle.image_bytes.specs.Layout.{firstLength, bodyLength}
 use Rattle.image_bytes.specs.Find.{bodySize, found}
 use Rattle.image_bytes.proofs.Laws.Checks.{firstOf-none, firstOf-some}
 use Rattle.image_bytes.proofs.Laws.Copy.{copied, copied-front}
 use Rattle.image_bytes.proofs.Laws.Find.{by-size, length-found, bodySize-most}
-use Rattle.body_rules.specs.Rules.{bodyKept, commonKept}
-use Rattle.body_rules.proofs.Laws.Rules.{bodyKept-first}
+use Rattle.body_rules.specs.Added.{unusedKept, firstSetKept, ps2Kept, secondSetKept, addedKept}
+use Rattle.body_rules.specs.Rules.{flagsKept, pendingKept, overlayKept, sendingKept, codeKept, lockKept, commonKept, bodyKept}
 use Rattle.editions.specs.Read.{plainBytes, completed, findRefusal, bodyRefusal, imageRefusal, BodyRead}
 
 -- ---- completed
@@ -28,9 +29,13 @@ module _ (b : List ℕ) where
   completed-2 long = take-at b plainBytes bodyLength long
 
 -- ---- bodyRefusal
--- of a body of edition 1 only the rules of edition 1 are asked
-pub bodyRefusal-1 : (b : List ℕ) → length b ≡ firstLength → bodyKept (completed b) ≡ commonKept b
-bodyRefusal-1 b long = ap bodyKept (completed-1 b long) ∙ bodyKept-first b long
+-- of a body of edition 1 only the rules of edition 1 are asked, since the four bytes keep theirs
+pub bodyKept-1 : (b : List ℕ) → length b ≡ firstLength → bodyKept (completed b) ≡ commonKept b
+unfolding bodyKept commonKept flagsKept pendingKept overlayKept sendingKept codeKept lockKept addedKept unusedKept firstSetKept ps2Kept secondSetKept
+bodyKept-1 b long =
+    let whole : listed 0 60 b ≡ b = sym (take-listed 0 60 b (omega arith)) ∙ take-all 60 b (omega arith) in
+    ap bodyKept (completed-1 b long)
+    ∙ subst (λ (l : List ℕ). bodyKept (l ++ plainBytes) ≡ commonKept l) whole (and-one (commonKept (listed 0 60 b)))
 
 module _ (b : List ℕ) where
   bodyRefusal-kept : bodyKept (completed b) ≡ true → bodyRefusal b ≡ 0

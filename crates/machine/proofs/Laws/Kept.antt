@@ -8,8 +8,7 @@ use lib.ListN.{getD}
 use borrow.Author.Tests.{eqb-true}
 use Rattle.translation.specs.Frames.{check, sound}
 use Rattle.translation.proofs.Frame.{check-sound}
-use Rattle.translation.proofs.KeyTable.{builtIn-passes, builtIn-below}
-use Rattle.machine.specs.Settings.{Settings, ordinary}
+use Rattle.machine.specs.Settings.{Settings}
 use Rattle.machine.specs.State.{Machine, fresh, lift}
 use Rattle.machine.specs.DataPort.{writeData}
 use Rattle.machine.specs.Commands.{writeCommand}
@@ -45,9 +44,6 @@ module _ (x : Settings) where
       (omega arith, omega arith)
       (λ l. not-both l refl, λ _. refl)
       settings
-
-pub ordinary-kept : Kept (fresh ordinary)
-ordinary-kept = fresh-kept ordinary (omega arith, builtIn-passes, builtIn-below)
 
 -- ---- emptied, accept, step
 pub emptied-kept : {m : Machine} → Kept m → Kept (lift emptied m)
