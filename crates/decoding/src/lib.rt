@@ -1,2 +1,4 @@
 // Command bytes: which act, and what each leaves.
+#![tactic(auto)]
+
 pub mod commands;

@@ -1,4 +1,6 @@
 // The bytes of a saved image around its body: the sum, the trailer, writing one, and finding one. What a body holds is said by the crates above.
+#![tactic(auto)]
+
 pub mod find;
 pub mod layout;
 pub mod seal;

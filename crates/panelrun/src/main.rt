@@ -1,4 +1,6 @@
 // Reads a list of events to the end of standard input, and prints its page.
+#![tactic(auto)]
+
 use libc::{STDIN_FILENO, STDOUT_FILENO};
 use printing::page::print_list;
 

@@ -1,4 +1,6 @@
 // What the printing program prints: the answers to a list of events as text.
+#![tactic(auto)]
+
 pub mod hex;
 mod lines;
 pub mod page;

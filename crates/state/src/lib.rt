@@ -1,4 +1,6 @@
 // The state of a controller: its bytes, and small access to them.
+#![tactic(auto)]
+
 pub mod bits;
 pub mod code;
 pub mod errors;

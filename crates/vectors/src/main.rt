@@ -1,5 +1,7 @@
 // Prints what the tests from outside compare with an independent model: frames and translation over every argument, the lists of standard input,
 // and images at their edges.
+#![tactic(auto)]
+
 mod cases;
 mod frames;
 mod images;
