@@ -17,10 +17,12 @@ ROOT = pathlib.Path(__file__).resolve().parent.parent
 WORD = re.compile(r"(?<![\w'-])[^\W\d][\w'-]*")
 CAMEL = re.compile(r"(?<![\w'-])[a-z][a-z0-9]*(?:[A-Z][A-Za-z0-9]*)[\w'-]*")
 LIBRARY = set("append length take drop set map reverse replicate get_or eqb ltb leb cond not has fold sum holds".split())
-DECLARED = re.compile(r"^(?:(?:pub|abbrev|unfoldable|private)\s+)*(?:record\s+|data\s+|ruleset\s+)?(?:pub\s+)?([^\W\d][\w'-]*)\s*(?::(?!:)|\(|\{)")
+DECLARED = re.compile(r"^(?:  )?(?:(?:pub|abbrev|unfoldable|private)\s+)*(?:record\s+|data\s+|ruleset\s+)?(?:pub\s+)?([^\W\d][\w'-]*)\s*(?::(?!:)|\(|\{)")
 FIELD = re.compile(r"^\s+(?:pub\s+)?([^\W\d][\w'-]*)\s*:\s")
 # names that would fall together with another one: what they become
-APART = {"line-written": "one_line_written"}
+APART = {"line-written": "one_line_written", "byte-read": "byte_read_back"}
+# the same, of a name that one file has for itself
+APART_IN = {"crates/image/proofs/Laws/RoundTrip.antt": {"body_kept": "body_is_kept"}}
 
 
 def files():
@@ -71,12 +73,19 @@ def renamed(lemmas, words):
     return to
 
 
+IMPORT = re.compile(r"use (?!Rattle\.)[\w.]+\.\{([^}]*)\}")
+
+
 def turned(text, to):
+    given = {name for found in IMPORT.finditer(text) for name in WORD.findall(found.group(1))}  # a library's own names
+
     def word(found):
         name = found.group(0)
+        if name in given:
+            return name
         if name in to:
             return to[name]
-        return snake(name) if CAMEL.fullmatch(name) and "-" not in name else name
+        return "-".join(snake(part) for part in name.split("-")) if CAMEL.fullmatch(name) else name
 
     return WORD.sub(word, text)
 
@@ -114,7 +123,8 @@ def main():
     lemmas, words = declared()
     to = renamed(lemmas, words)
     become = collections.defaultdict(set)
-    for word in lemmas | words | parameters():
+    alone = {name for names in APART_IN.values() for name in names}
+    for word in (lemmas | words | parameters()) - alone:
         become[to.get(word, word)].add(word)
     clash = {new: old for new, old in become.items() if len(old) > 1}
     for new, old in sorted(clash.items()):
@@ -127,7 +137,7 @@ def main():
         return 1
     for path in files():
         text = path.read_text()
-        path.write_text(turned(text, to))
+        path.write_text(turned(text, to | APART_IN.get(str(path.relative_to(ROOT)), {})))
     for path in sources():
         text = path.read_text()
         path.write_text(turned_source(text, to))

@@ -17,7 +17,7 @@ use Rattle.state.specs.Changed.{Changed}
 use Rattle.state.specs.Told.{EventTold}
 use Rattle.state.specs.declared.told.Told.{Told}
 use Rattle.state.proofs.Laws.Changed.{by_three}
-use Rattle.state.proofs.Laws.Told.{told-command}
+use Rattle.state.proofs.Laws.Told.{told_command}
 use Rattle.decoding.specs.Promises.{CommandDecoded, heard}
 use Rattle.decoding.specs.declared.commands.Decoded.{Decoded}
 use Rattle.decoding.proofs.Laws.{heard-known, heard-left}
@@ -37,18 +37,18 @@ module _ {s t u : List ℕ} {c : ℕ} {d : Decoded}
   from_start : CommandDecoded (public s).settings c d
   from_start = subst (λ (x : Settings). CommandDecoded x c d) (ap (λ (m : Machine). m.plain.settings) cut.machine ∙ load_cut-settings (view s)) decoded
 
-  settings-now : (public u).settings ≡ (public s).settings
-  settings-now = ap (λ (m : Machine). m.plain.settings) written.machine ∙ ap (λ (m : Machine). m.plain.settings) cut.machine ∙ load_cut-settings (view s)
+  settings_now : (public u).settings ≡ (public s).settings
+  settings_now = ap (λ (m : Machine). m.plain.settings) written.machine ∙ ap (λ (m : Machine). m.plain.settings) cut.machine ∙ load_cut-settings (view s)
 
-  pub command-done : {v : List ℕ} {n high : ℕ} {told : Told} → n ≡ refusal (public s) (event 3 c high) → n ≡ 0 →
+  pub command_done : {v : List ℕ} {n high : ℕ} {told : Told} → n ≡ refusal (public s) (event 3 c high) → n ≡ 0 →
       (told.refusal ≡ 0) × (told.read ≡ 0) × (told.old ≡ 0) × (told.pulse ≡ d.pulse) →
       ChangedBySet d.command (acts d.command) u v →
       EventTold s (event 3 c high) v told
-  command-done {v} same none (is_number, is_read, is_old, is_pulse) acted =
+  command_done {v} same none (is_number, is_read, is_old, is_pulse) acted =
       let x = (public s).settings in
       let heard' = from_start.command in
-      let set-now : second_set (public u) ≡ x.second_set = ap (λ (y : Settings). y.second_set) settings-now in
-      told-command same none (is_number, is_read, is_old, is_pulse ∙ from_start.pulse)
+      let set-now : second_set (public u) ≡ x.second_set = ap (λ (y : Settings). y.second_set) settings_now in
+      told_command same none (is_number, is_read, is_old, is_pulse ∙ from_start.pulse)
       (split (second_only d.command)
       (λ only.
       split x.second_set

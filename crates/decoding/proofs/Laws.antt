@@ -9,7 +9,7 @@ use Rattle.machine.specs.Settings.{Settings}
 use Rattle.machine.specs.SecondSet.{second_only}
 use Rattle.machine.specs.Commands.{understood, pending_of, cell_named}
 use Rattle.machine.proofs.Laws.Cond.{not_both}
-use Rattle.machine.proofs.Laws.Commands.{understood-second, understood-first, understood-known}
+use Rattle.machine.proofs.Laws.Commands.{understood_second, understood-first, understood-known}
 use Rattle.decoding.specs.Promises.{heard}
 
 -- a command of the second set's own leaves no pending code and no cell
@@ -28,14 +28,14 @@ module _ (x : Settings) (c : ℕ) where
   ordinary = not x.at_mode && not x.second_set
 
   -- what it leaves is what the command as it is understood leaves
-  pub heard-leaves : c < 256 → (pending_of (heard x c) ≡ pending_of (understood x c)) × (cell_named (heard x c) ≡ cell_named (understood x c))
+  pub heard_leaves : c < 256 → (pending_of (heard x c) ≡ pending_of (understood x c)) × (cell_named (heard x c) ≡ cell_named (understood x c))
   unfolding pending_of
-  heard-leaves byte =
+  heard_leaves byte =
       split ordinary
       (λ stands.
       split (second_only c)
       (λ own.
-      let left : 0 ≡ understood x c = understood-second x c refl stands refl own in
+      let left : 0 ≡ understood x c = understood_second x c refl stands refl own in
       let (code, cell) = own_bare c byte own in
       rw (sym left) (simp stands (code, cell)))
       (λ none.
@@ -58,15 +58,15 @@ module _ (x : Settings) (c : ℕ) where
       split ordinary
       (λ stands.
       let only : second_only c ≡ true = simp stands at own in
-      understood-second x c refl stands refl only)
+      understood_second x c refl stands refl only)
       (λ other.
       let only : second_only (understood x c) ≡ true = simp other at own in
       not_both only ((understood-known x c).second one))
 
 -- ---- heard, by what the program asked of the settings
 module _ (x : Settings) (c : ℕ) {a b : Bool} (is_at : a ≡ x.at_mode) (is_second : b ≡ x.second_set) where
-  pub heard-itself : (not a && not b) ≡ true → c ≡ heard x c
-  heard-itself h = simp (simp (is_at, is_second) at h)
+  pub heard_itself : (not a && not b) ≡ true → c ≡ heard x c
+  heard_itself h = simp (simp (is_at, is_second) at h)
 
   pub heard-understood : {r : ℕ} → (not a && not b) ≡ false → r ≡ understood x c → r ≡ heard x c
   heard-understood h same = same ∙ simp (simp (is_at, is_second) at h)

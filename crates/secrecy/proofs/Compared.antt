@@ -56,9 +56,9 @@ module _ {options version number : ℕ} {table q q' : List ℕ} (start : TableSt
       }
 
   -- both runs from the one state that was started
-  pub fitting-compared : {xs s s' ys t t' r u : List ℕ} → number ≡ 0 → FittingRun q' xs s r s' → FittingRun q' ys t u t' →
+  pub fitting_compared : {xs s s' ys t t' r u : List ℕ} → number ≡ 0 → FittingRun q' xs s r s' → FittingRun q' ys t u t' →
       FittingCompared options version table xs s s' ys t t' 0
-  fitting-compared {xs} {s} {ys = ys} {t = t} accepted went went' =
+  fitting_compared {xs} {s} {ys = ys} {t = t} accepted went went' =
       let none = sym start.refusal ∙ accepted in
       let m = begun options version table in
       let seen = (start.started none).machine in

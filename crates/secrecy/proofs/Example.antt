@@ -60,16 +60,16 @@ module _ (lock : Bool) (version : ℕ) where
   differ (suc (suc (suc (suc (suc (suc k)))))) e f p q = same (cc)
 
   -- in both lists the lock opens at the last place and at no other
-  pub opensAt-last : (k : ℕ) → k < 6 → (opens_at (fresh x) first k ≡ eqb k 5) × (opens_at (fresh x) second k ≡ eqb k 5)
+  pub opens_at_last : (k : ℕ) → k < 6 → (opens_at (fresh x) first k ≡ eqb k 5) × (opens_at (fresh x) second k ≡ eqb k 5)
   unfolding fresh after step refusal state_refusal accept write_command acts load_cut pending_of plain_command lock_command put_cell write_data load_byte check ones
       input_port keyboard_frame sound_key translated translate built_in rows yield_delivered byte_delivered try key_matched end_with longest begun
-  opensAt-last zero h = (refl, refl)
-  opensAt-last (suc zero) h = (refl, refl)
-  opensAt-last (suc (suc zero)) h = (refl, refl)
-  opensAt-last (suc (suc (suc zero))) h = (refl, refl)
-  opensAt-last (suc (suc (suc (suc zero)))) h = (refl, refl)
-  opensAt-last (suc (suc (suc (suc (suc zero))))) h = (refl, refl)
-  opensAt-last (suc (suc (suc (suc (suc (suc k)))))) h = absurd (omega arith)
+  opens_at_last zero h = (refl, refl)
+  opens_at_last (suc zero) h = (refl, refl)
+  opens_at_last (suc (suc zero)) h = (refl, refl)
+  opens_at_last (suc (suc (suc zero))) h = (refl, refl)
+  opens_at_last (suc (suc (suc (suc zero)))) h = (refl, refl)
+  opens_at_last (suc (suc (suc (suc (suc zero))))) h = (refl, refl)
+  opens_at_last (suc (suc (suc (suc (suc (suc k)))))) h = absurd (omega arith)
 
   pub paired : Paired (fresh x) first second
-  paired = record { lengths = refl; differ = differ; openings = λ k h. (opensAt-last k h).0 ∙ sym (opensAt-last k h).1 }
+  paired = record { lengths = refl; differ = differ; openings = λ k h. (opens_at_last k h).0 ∙ sym (opens_at_last k h).1 }

@@ -17,7 +17,7 @@ use Rattle.machine.specs.DataPort.{data_written}
 use Rattle.machine.specs.Devices.{keyboard_frame}
 use Rattle.machine.specs.Events.{Event, value, accept, step, answer}
 use Rattle.machine.specs.Run.{after, answers}
-use Rattle.machine.proofs.Laws.Events.{accept-data, accept-keyboard}
+use Rattle.machine.proofs.Laws.Events.{accept_data, accept_keyboard}
 use Rattle.machine.proofs.Laws.Run.{after_last, answers_last}
 use Rattle.machine.proofs.Laws.Alike.{Alike, StillAlike, EventsAlike, lift_alike, load_byte_alike, write_data-load, keys_alike}
 use Rattle.machine.proofs.Laws.Alike.{accept_alike, step_alike, answer_alike}
@@ -52,10 +52,10 @@ accept_allowed : {m n : Machine} {e f : Event} → Alike m n → Allowed m e f �
 accept_allowed {m} {n} {e} {f} h (same s) = subst (λ (f : Event). StillAlike m n (accept m e) (accept n f)) s (accept_alike e h)
 accept_allowed {m} {n} {e} {f} h (loading now c d) = λ together.
     let then : n.plain.host.pending ≡ 3 = ap (λ p. p.host.pending) (sym h.plain) ∙ now in
-    rw (accept-data m e c.kind, accept-data n f d.kind, write_data-load (value e) m now, write_data-load (value f) n then)
+    rw (accept_data m e c.kind, accept_data n f d.kind, write_data-load (value e) m now, write_data-load (value f) n then)
     (load_byte_alike (value e) (value f) (code_byte_nonzero c d) (lift_alike data_written h))
 accept_allowed {m} {n} {e} {f} h (trying now k l) =
-    rw (accept-keyboard m e k.kind, accept-keyboard n f l.kind, k.frame, l.frame)
+    rw (accept_keyboard m e k.kind, accept_keyboard n f l.kind, k.frame, l.frame)
     (unfold keyboard_frame in keys_alike k.byte l.byte now (λ z. omega arith) (λ z. omega arith) h)
 
 step_allowed : {m n : Machine} {e f : Event} → Alike m n → Allowed m e f → StillAlike m n (step m e) (step n f)
@@ -110,17 +110,17 @@ module _ {m : Machine} {es fs : List Event} (paired : Paired m es fs) where
       (λ locked. opens_at_both _ _ _ _ locked (ap (λ p. p.locked) (sym a.plain) ∙ locked) (paired.openings k h))
 
   -- before each place the machines are alike
-  pub before-alike : (k : ℕ) → Alike (before m es k) (before m fs k)
-  before-alike zero = record { plain = refl; size = refl }
-  before-alike (suc k) =
-      places k (λ h e f p q. alike_next k e f p q h (before-alike k))
-      (λ h. rw (take_past es k h, take_past fs k (omega arith)) (before-alike k))
+  pub before_alike : (k : ℕ) → Alike (before m es k) (before m fs k)
+  before_alike zero = record { plain = refl; size = refl }
+  before_alike (suc k) =
+      places k (λ h e f p q. alike_next k e f p q h (before_alike k))
+      (λ h. rw (take_past es k h, take_past fs k (omega arith)) (before_alike k))
 
   -- at each place the nine bytes are the same
   pub secret : (k : ℕ) (e f : Event) → At es k e → At fs k f → answer (before m es k) e ≡ answer (before m fs k) f
   secret k e f p q =
-      answer_alike (before-alike k) (events_alike (paired.differ k e f p q))
-      (subst₂ Alike (before-next m es k e p) (before-next m fs k f q) (before-alike (suc k)))
+      answer_alike (before_alike k) (events_alike (paired.differ k e f p q))
+      (subst₂ Alike (before-next m es k e p) (before-next m fs k f q) (before_alike (suc k)))
 
   -- and so are all the answers, of the whole lists and of as much of them as one takes
   pub secret-take : (n : ℕ) → answers m (take n es) ≡ answers m (take n fs)

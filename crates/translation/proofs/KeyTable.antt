@@ -203,8 +203,8 @@ pub tallied_none : (xs : List ℕ) → Tallied xs 0 (replicate 256 0)
 tallied_none xs = record { size = length-replicate {A = ℕ} 256 0; times = λ v h. get_or-replicate {A = ℕ} 256 v 0 0 h }
 
 module _ {xs seen : List ℕ} {k : ℕ} (t : Tallied xs k seen) where
-  pub tallied-next : {x : ℕ} → k < length xs → x ≡ get_or xs k 0 → x < 256 → Tallied xs (suc k) (set seen x (get_or seen x 0 + 1))
-  tallied-next {x} h at small = record { size = length-set seen x _ ∙ t.size; times = each }
+  pub tallied_next : {x : ℕ} → k < length xs → x ≡ get_or xs k 0 → x < 256 → Tallied xs (suc k) (set seen x (get_or seen x 0 + 1))
+  tallied_next {x} h at small = record { size = length-set seen x _ ∙ t.size; times = each }
     where
       each : (v : ℕ) → v < 256 → get_or (set seen x (get_or seen x 0 + 1)) v 0 ≡ occurrences v (take (suc k) xs)
       each v below =
@@ -218,8 +218,8 @@ module _ {xs seen : List ℕ} {k : ℕ} (t : Tallied xs k seen) where
           get_or-set_other seen x v _ 0 other ∙ t.times v below ∙ sym (occurrences-next_past v xs k h (λ e. other (sym e ∙ sym at))))
 
   -- a occurrences of the first k is at most k
-  pub tallied-most : {v : ℕ} → v < 256 → get_or seen v 0 ≤ k
-  tallied-most {v} below = omega (arith, t.times v below, occurrences_le v (take k xs), length-take k xs)
+  pub tallied_most : {v : ℕ} → v < 256 → get_or seen v 0 ≤ k
+  tallied_most {v} below = omega (arith, t.times v below, occurrences_le v (take k xs), length-take k xs)
 
 -- each_once from v on
 
@@ -259,8 +259,8 @@ module _ (t : List ℕ) where
   accepted-permutes none =
       split (permutes t) (λ e. e) (λ e. absurd (omega (arith, none, refused-keys (accepted-length none) e)))
 
-  pub accepted-permutation : table_refusal t ≡ 0 → Permutation t
-  accepted-permutation none = permutation t (accepted-permutes none)
+  pub accepted_permutation : table_refusal t ≡ 0 → Permutation t
+  accepted_permutation none = permutation t (accepted-permutes none)
 
   pub accepted-fixed : table_refusal t ≡ 0 → fixed t ≡ true
   accepted-fixed none =

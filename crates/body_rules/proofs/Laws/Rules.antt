@@ -39,18 +39,18 @@ every_zeros (suc n) = every_zeros n
 
 -- ---- every, from byte i on
 module _ (test : ℕ → Bool) (l : List ℕ) (i : ℕ) where
-  pub every-end : length l ≤ i → every test (drop i l) ≡ true
+  pub every_end : length l ≤ i → every test (drop i l) ≡ true
   unfolding every
-  every-end h = ap (every test) (drop_of_length-le l h)
+  every_end h = ap (every test) (drop_of_length-le l h)
 
   pub every-passed : i < length l → test (get_or l i 0) ≡ true → every test (drop i l) ≡ every test (drop (i + 1) l)
   unfolding every
   every-passed h e =
       ap (every test) (drop-cons l i 0 h) ∙ and_passed (test (get_or l i 0)) (every test (drop (suc i) l)) e ∙ rw add-one
 
-  pub every-failed : i < length l → test (get_or l i 0) ≡ false → every test (drop i l) ≡ false
+  pub every_failed : i < length l → test (get_or l i 0) ≡ false → every test (drop i l) ≡ false
   unfolding every
-  every-failed h e = ap (every test) (drop-cons l i 0 h) ∙ and_failed (test (get_or l i 0)) (every test (drop (suc i) l)) e
+  every_failed h e = ap (every test) (drop-cons l i 0 h) ∙ and_failed (test (get_or l i 0)) (every test (drop (suc i) l)) e
 
 -- ---- common_kept
 -- the rules as facts
@@ -74,9 +74,9 @@ pub record CommonRules (b : List ℕ) : Type 0 where
   pub mode : mode_byte b < 128
 
 module _ (b : List ℕ) where
-  commonKept-rules : common_kept b ≡ true → CommonRules b
+  common_kept_rules : common_kept b ≡ true → CommonRules b
   unfolding common_kept flags_kept pending_kept overlay_kept sending_kept code_kept lock_kept
-  commonKept-rules e =
+  common_kept_rules e =
       let s1 = and_true (flags_kept b) _ e in
       let s2 = and_true (latches_kept b) _ s1.1 in
       let s3 = and_true (pending_kept b) _ s2.1 in
@@ -119,9 +119,9 @@ module _ (b : List ℕ) where
         mode = ltb-true _ _ s7.1;
       }
 
-  rules-commonKept : CommonRules b → common_kept b ≡ true
+  rules_common_kept : CommonRules b → common_kept b ≡ true
   unfolding common_kept flags_kept pending_kept overlay_kept sending_kept code_kept lock_kept
-  rules-commonKept r =
+  rules_common_kept r =
       and_both _ _ (and_both _ _ (lt-ltb _ _ r.flags) (cond-passes _ _ _ r.source (λ _. refl)))
       (and_both _ _ (lt-ltb _ _ r.latches)
       (and_both _ _ pending (and_both _ _ overlay (and_both _ _ sending (and_both _ _ code (and_both _ _ lock (lt-ltb _ _ r.mode)))))))
@@ -164,9 +164,9 @@ pub record AddedRules (b : List ℕ) : Type 0 where
   pub even_nibble : second_set b ≡ true → has (nibble_byte b) 0 ≡ false
 
 module _ (b : List ℕ) where
-  addedKept-rules : added_kept b ≡ true → AddedRules b
+  added_kept_rules : added_kept b ≡ true → AddedRules b
   unfolding added_kept unused_kept first_set_kept ps2_kept second_set_kept
-  addedKept-rules e =
+  added_kept_rules e =
       let s1 = and_true (unused_kept b) _ e in
       let s2 = and_true (first_set_kept b) _ s1.1 in
       let s3 = and_true (ps2_kept b) (second_set_kept b) s2.1 in
@@ -190,9 +190,9 @@ module _ (b : List ℕ) where
         even_nibble = λ h. not-true _ (second.0 h);
       }
 
-  rules-addedKept : AddedRules b → added_kept b ≡ true
+  rules_added_kept : AddedRules b → added_kept b ≡ true
   unfolding added_kept unused_kept first_set_kept ps2_kept second_set_kept
-  rules-addedKept r = and_both _ _ unused (and_both _ _ first (and_both _ _ ps2 second))
+  rules_added_kept r = and_both _ _ unused (and_both _ _ first (and_both _ _ ps2 second))
     where
       unused : unused_kept b ≡ true
       unused =
@@ -220,15 +220,15 @@ pub record Rules (b : List ℕ) : Type 0 where
   pub added : AddedRules b
 
 module _ (b : List ℕ) where
-  pub bodyKept-rules : body_kept b ≡ true → Rules b
+  pub body_kept_rules : body_kept b ≡ true → Rules b
   unfolding body_kept
-  bodyKept-rules e =
+  body_kept_rules e =
       let both = and_true (common_kept b) (added_kept b) e in
-      record { common = commonKept-rules b both.0; added = addedKept-rules b both.1 }
+      record { common = common_kept_rules b both.0; added = added_kept_rules b both.1 }
 
-  pub rules-bodyKept : Rules b → body_kept b ≡ true
+  pub rules_body_kept : Rules b → body_kept b ≡ true
   unfolding body_kept
-  rules-bodyKept r = and_both _ _ (rules-commonKept b r.common) (rules-addedKept b r.added)
+  rules_body_kept r = and_both _ _ (rules_common_kept b r.common) (rules_added_kept b r.added)
 
 -- they look at no byte behind the body
 pub body_kept_front : (b rest : List ℕ) → length b ≡ 64 → body_kept (b ++ rest) ≡ body_kept b

@@ -2,7 +2,7 @@
 use Prim.Native.Nat.{ℕ, ◌+◌, ◌/◌, ◌%◌, ◌≤◌}
 use native.Mathlib.Omega.{arith}
 use mathlib.Core.Path.{◌≡◌, refl, ap, sym, ◌∙◌}
-use mathlib.Core.Bool.{Bool, true, false, ◌&&◌, and_false, true≢false}
+use mathlib.Core.Bool.{Bool, true, false, ◌&&◌, and-false, true≢false}
 use mathlib.Core.List.{List, [], ◌∷◌, ◌++◌}
 use lib.Dec.{eqb}
 use lib.ListN.{length, drop, set, get_or}
@@ -31,9 +31,9 @@ nine_laid a b c d p space room =
     front 9 (λ s. lines_laid p (set (set (set (set s 0 a) 1 b) 2 c) 5 d) ≡ (a ∷ b ∷ c ∷ lines p d) ++ drop 9 s) space room refl
 
 module _ (p : Public) (n : ℕ) (space : List ℕ) {port : ℕ} where
-  pub laid-any : {f : ℕ} → n ≡ status p → port ≡ output_port p → f ≡ sent_frame p →
+  pub laid_any : {f : ℕ} → n ≡ status p → port ≡ output_port p → f ≡ sent_frame p →
       set (set (set (set (set space 3 n) 4 port) 6 p.sending.to) 7 (f % 256)) 8 (f / 256) ≡ lines_laid p space
-  laid-any is_status is_port is_frame =
+  laid_any is_status is_port is_frame =
       λ i. set (set (set (set (set space 3 (is_status i)) 4 (is_port i)) 6 p.sending.to) 7 (is_frame i % 256)) 8 (is_frame i / 256)
 
   -- from the status without IBF
@@ -104,14 +104,14 @@ module _ {s s' : List ℕ} {e : Event} {t : Told} {space mid : List ℕ} (told :
       }
 
   -- an accepted read of 64h: the status is copied to where the byte read stands
-  pub written-status : e.kind ≡ 2 → t.refusal ≡ 0 → EventWritten s e space s' (set mid 1 (get_or mid 3 0))
-  written-status is_read none =
+  pub written_status : e.kind ≡ 2 → t.refusal ≡ 0 → EventWritten s e space s' (set mid 1 (get_or mid 3 0))
+  written_status is_read none =
       let read : (eqb e.kind 2 && eqb t.refusal 0) ≡ true = simp (eq-eqb e.kind 2 is_read, eq-eqb t.refusal 0 none) in
       written (ap (λ (d : List ℕ). set d 1 (get_or d 3 0)) shown ∙ status_copied t.refusal t.read t.old (public s') t.pulse (drop 9 space) ∙ simp read)
 
   -- a refused one, and any other event
-  pub written-refused : (t.refusal ≡ 0 → ⊥) → EventWritten s e space s' mid
-  written-refused stands = written (shown ∙ simp (ne_eqb t.refusal 0 stands, and_false))
+  pub written_refused : (t.refusal ≡ 0 → ⊥) → EventWritten s e space s' mid
+  written_refused stands = written (shown ∙ simp (ne_eqb t.refusal 0 stands, and-false))
 
-  pub written-other : (e.kind ≡ 2 → ⊥) → EventWritten s e space s' mid
-  written-other other = written (shown ∙ simp (ne_eqb e.kind 2 other))
+  pub written_other : (e.kind ≡ 2 → ⊥) → EventWritten s e space s' mid
+  written_other other = written (shown ∙ simp (ne_eqb e.kind 2 other))

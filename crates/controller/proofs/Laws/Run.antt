@@ -20,7 +20,7 @@ use Rattle.machine.proofs.Laws.Kept.{keeps}
 use Rattle.state.proofs.Laws.Changed.{chain, by_rule, untouched}
 use Rattle.translation.proofs.Lists.{take_rest, handed, handed_back}
 use Rattle.machine.proofs.Laws.Run.{length-answer, length-answers, after_kept, after-append, filled_none, filled_more, filled-append}
-use Rattle.machine.proofs.Laws.Run.{fitting_short, fitting_tight, fitting_more, fitting_all, length-piece, fitting-piece, fitting-split, fitting-cut}
+use Rattle.machine.proofs.Laws.Run.{fitting_short, fitting_tight, fitting_more, fitting_all, length_piece, fitting_piece, fitting-split, fitting_cut}
 use Rattle.controller.specs.Promises.{EventAnswered, FittingRun, ListRun, FreshRun}
 use Rattle.controller.specs.Steps.{EventWritten, piece_end, lines_laid}
 use Rattle.controller.proofs.Laws.Events.{nine_laid}
@@ -66,15 +66,15 @@ module _ {s n list space mid : List ℕ} (h : 3 ≤ length list) (room : 9 ≤ l
       ∙ filled_more m e es space ∙ ap (λ (fs : List Event). filled m fs space) (sym all))
 
   -- the rest of both, as it is lent to the next event
-  pub run-rest : {r ys : List ℕ} → FittingRun n (take (length list - 3) (drop 3 list)) (take (length mid - 9) (drop 9 mid)) r ys →
+  pub run_rest : {r ys : List ℕ} → FittingRun n (take (length list - 3) (drop 3 list)) (take (length mid - 9) (drop 9 mid)) r ys →
       FittingRun s list space r (handed 9 mid ys)
-  run-rest {r} {ys} lent =
+  run_rest {r} {ys} lent =
       let more : FittingRun n (drop 3 list) (drop 9 mid) r ys = rw (take_rest 3 list, take_rest 9 mid) at lent in
       rw (handed_back 9 mid ys) (run_more more)
 
   -- no event stands behind it
-  pub run-last : length list < 6 → FittingRun s list space n mid
-  run-last short =
+  pub run_last : length list < 6 → FittingRun s list space n mid
+  run_last short =
       subst (λ (d : List ℕ). FittingRun s list space n d) (take-append-drop 9 mid)
       (run_more (run_none (fitting_short (drop 3 list) (drop 9 mid) (simp length-drop (omega arith)))))
 
@@ -108,9 +108,9 @@ unfolding filled
 run_pieces n {s} {t} {r} {list} {space} {mid} {ys} some room one more =
     let m = view s in
     let es = events (take (3 * n) list) in
-    let count = length-piece n list space some in
+    let count = length_piece n list space some in
     let long : length (answers m es) ≡ 9 * n = length-answers m es ∙ omega (arith, count) in
-    let fits = fitting-piece n list space some room in
+    let fits = fitting_piece n list space some room in
     let told : mid ≡ answers m es ++ drop (9 * n) space =
     one.buffer ∙ ap (λ (fs : List Event). filled m fs space) fits ∙ ap (λ (k : ℕ). answers m es ++ drop (9 * k) space) count in
     let rest : drop (9 * n) mid ≡ drop (9 * n) space = ap (drop (9 * n)) told ∙ drop_at (answers m es) (drop (9 * n) space) (9 * n) long in
@@ -198,11 +198,11 @@ module _ {s₀ list space₀ s space : List ℕ} {done told : ℕ} (so_far : Pie
       ap length (handed_back told space ys) ∙ length-append (take told space) ys ∙ omega (arith, front_long, long, so_far.room)
 
   -- one piece more, its parts as the loop lends them
-  pieced-more : {t ys : List ℕ} → 1500 ≤ length list - done → 4500 ≤ length space - told →
+  pieced_more : {t ys : List ℕ} → 1500 ≤ length list - done → 4500 ≤ length space - told →
       length (handed told space ys) ≡ length space →
       FittingRun s (take (done + 1500 - done) (drop done list)) (take (length space - told) (drop told space)) t ys →
       Pieced s₀ list space₀ t (handed told space ys) (done + 1500) (told + 4500)
-  pieced-more {t} {ys} some room long lent =
+  pieced_more {t} {ys} some room long lent =
       let short : done + 1500 - done ≡ 1500 = omega arith in
       let piece : FittingRun s (take 1500 (drop done list)) (drop told space) t ys = rw (short, take_rest told space) at lent in
       let back = handed_back told space ys in
@@ -236,7 +236,7 @@ module _ {s₀ list space₀ s space : List ℕ} {done told : ℕ} (so_far : Pie
         let (stop, some, loose) = goes_on (length list) done end (length (handed told space ys) - told) at more in
         let long = as_long ys kept in
         subst (λ (n : ℕ). Pieced s₀ list space₀ t (handed told space ys) n (told + 4500)) (sym stop)
-        (pieced-more some (omega (arith, loose, long)) long
+        (pieced_more some (omega (arith, loose, long)) long
         (subst (λ (n : ℕ). FittingRun s (take (n - done) (drop done list)) (take (length space - told) (drop told space)) t ys) stop lent))
 
     -- the last piece: all that is left of the list
@@ -261,7 +261,7 @@ module _ {s₀ list space₀ s space : List ℕ} {done told : ℕ} (so_far : Pie
         let stops : end - done ≡ 1500 = omega (arith, stop) in
         let few = ltb-true (length (handed told space ys) - told) 4500 tight in
         ap (λ (n : ℕ). fitting (take n rest) room) stops
-        ∙ fitting-cut 500 rest room
+        ∙ fitting_cut 500 rest room
         (simp length-drop (ltb-false (length list - done) 1500 long)) (simp length-drop (omega (arith, few, as_long ys kept))))) in
         rw (handed_back told space ys) (so_far.whole t ys (run-same all ran))
 

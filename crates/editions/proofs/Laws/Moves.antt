@@ -15,27 +15,27 @@ use Rattle.image_bytes.specs.Checks.{first_of}
 use Rattle.image_bytes.specs.Layout.{first_length, body_length, image_length, sealed}
 use Rattle.image_bytes.specs.Seal.{space_refusal, Written}
 use Rattle.image_bytes.specs.Find.{body_size, found}
-use Rattle.image_bytes.proofs.Laws.Checks.{firstOf-none, firstOf-some}
+use Rattle.image_bytes.proofs.Laws.Checks.{first_of-none, first_of_some}
 use Rattle.image_bytes.proofs.Laws.Layout.{length-sealed}
-use Rattle.image_bytes.proofs.Laws.Seal.{imageWritten-refused, imageWritten-room}
-use Rattle.image_bytes.proofs.Laws.Find.{sealed-1, sealed-2, size-1, size-2, found_sized, length_found}
-use Rattle.image_bytes.proofs.Laws.Trailer.{bodyOf-sealed, sealed-trailer, lastBytes-sealed}
+use Rattle.image_bytes.proofs.Laws.Seal.{image_written-refused, image_written-room}
+use Rattle.image_bytes.proofs.Laws.Find.{sealed_1, sealed_2, size_1, size_2, found_sized, length_found}
+use Rattle.image_bytes.proofs.Laws.Trailer.{body_of-sealed, sealed-trailer, last_bytes-sealed}
 use Rattle.body_rules.specs.Rules.{body_kept}
 use Rattle.body_rules.specs.Body.{options_byte, input_latches_byte, high_latches_byte, time_out_byte}
 use Rattle.editions.specs.Read.{plain_bytes, completed, image_refusal, BodyRead}
 use Rattle.editions.specs.Moves.{forward, back, edition_refusal, plain, settings_refusal, forward_refusal, back_refusal, Moved}
 use Rattle.editions.specs.Moves.{ForwardAndBack, BackAndForward}
-use Rattle.editions.proofs.Laws.Read.{completed-1, completed-2, imageRefusal-kept, accepted-kept}
+use Rattle.editions.proofs.Laws.Read.{completed_1, completed_2, image_refusal-kept, accepted-kept}
 
 -- ---- edition_refusal, settings_refusal
 module _ (n : ℕ) (bytes : List ℕ) where
-  editionRefusal-same : body_size bytes ≡ n → edition_refusal n bytes ≡ 0
+  edition_refusal-same : body_size bytes ≡ n → edition_refusal n bytes ≡ 0
   unfolding edition_refusal
-  editionRefusal-same e = cond_true _ _ _ (eq-eqb (body_size bytes) n e)
+  edition_refusal-same e = cond_true _ _ _ (eq-eqb (body_size bytes) n e)
 
-  editionRefusal-other : (body_size bytes ≡ n → ⊥) → edition_refusal n bytes ≡ 10
+  edition_refusal-other : (body_size bytes ≡ n → ⊥) → edition_refusal n bytes ≡ 10
   unfolding edition_refusal
-  editionRefusal-other other = cond_false _ _ _ (ne_eqb (body_size bytes) n other)
+  edition_refusal-other other = cond_false _ _ _ (ne_eqb (body_size bytes) n other)
 
 settings_refusal-plain : (b : List ℕ) → plain b ≡ true → settings_refusal b ≡ 0
 unfolding settings_refusal
@@ -72,18 +72,18 @@ module _ (bytes front : List ℕ) where
     first-long = length_found bytes ∙ one
 
     added : completed (found bytes) ≡ found bytes ++ plain_bytes
-    added = completed-1 (found bytes) first-long
+    added = completed_1 (found bytes) first-long
 
     added-long : length (completed (found bytes)) ≡ body_length
     added-long = ap length added ∙ length-append (found bytes) plain_bytes ∙ omega (arith, first-long)
 
     pub forward-size : body_size (front ++ forward bytes) ≡ body_length
     unfolding forward
-    forward-size = sealed-2 (front ++ forward bytes) (sealed-trailer 2 body_length front (completed (found bytes)) added-long (omega arith))
+    forward-size = sealed_2 (front ++ forward bytes) (sealed-trailer 2 body_length front (completed (found bytes)) added-long (omega arith))
 
     pub forward-found : found (front ++ forward bytes) ≡ completed (found bytes)
     unfolding forward
-    forward-found = found_sized (front ++ forward bytes) forward-size ∙ bodyOf-sealed 2 body_length front (completed (found bytes)) added-long
+    forward-found = found_sized (front ++ forward bytes) forward-size ∙ body_of-sealed 2 body_length front (completed (found bytes)) added-long
 
   module _ (two : body_size bytes ≡ body_length) where
     second-long : length (found bytes) ≡ body_length
@@ -94,11 +94,11 @@ module _ (bytes front : List ℕ) where
 
     pub back-size : body_size (front ++ back bytes) ≡ first_length
     unfolding back
-    back-size = sealed-1 (front ++ back bytes) (sealed-trailer 1 first_length front (take first_length (found bytes)) front_long (omega arith))
+    back-size = sealed_1 (front ++ back bytes) (sealed-trailer 1 first_length front (take first_length (found bytes)) front_long (omega arith))
 
     pub back_found : found (front ++ back bytes) ≡ take first_length (found bytes)
     unfolding back
-    back_found = found_sized (front ++ back bytes) back-size ∙ bodyOf-sealed 1 first_length front (take first_length (found bytes)) front_long
+    back_found = found_sized (front ++ back bytes) back-size ∙ body_of-sealed 1 first_length front (take first_length (found bytes)) front_long
 
 pub length-forward : (bytes : List ℕ) → body_size bytes ≡ first_length → length (forward bytes) ≡ image_length
 unfolding forward
@@ -113,45 +113,45 @@ module _ (bytes space : List ℕ) where
   forward-other : (body_size bytes ≡ first_length → ⊥) → forward_refusal bytes space ≡ 10
   unfolding forward_refusal
   forward-other other =
-      let ten = editionRefusal-other first_length bytes other in
-      firstOf-some (edition_refusal first_length bytes) _ (λ z. omega (arith, z, ten)) ∙ ten
+      let ten = edition_refusal-other first_length bytes other in
+      first_of_some (edition_refusal first_length bytes) _ (λ z. omega (arith, z, ten)) ∙ ten
 
   back-other : (body_size bytes ≡ body_length → ⊥) → back_refusal bytes space ≡ 10
   unfolding back_refusal
   back-other other =
-      let ten = editionRefusal-other body_length bytes other in
-      firstOf-some (edition_refusal body_length bytes) _ (λ z. omega (arith, z, ten)) ∙ ten
+      let ten = edition_refusal-other body_length bytes other in
+      first_of_some (edition_refusal body_length bytes) _ (λ z. omega (arith, z, ten)) ∙ ten
 
   module _ (one : body_size bytes ≡ first_length) where
     forward-refused : (image_refusal bytes ≡ 0 → ⊥) → forward_refusal bytes space ≡ image_refusal bytes
     unfolding forward_refusal
     forward-refused stands =
-        firstOf-none (edition_refusal first_length bytes) _ (editionRefusal-same first_length bytes one) ∙ firstOf-some (image_refusal bytes) _ stands
+        first_of-none (edition_refusal first_length bytes) _ (edition_refusal-same first_length bytes one) ∙ first_of_some (image_refusal bytes) _ stands
 
     forward-space : image_refusal bytes ≡ 0 → forward_refusal bytes space ≡ space_refusal (length (forward bytes)) space
     unfolding forward_refusal
     forward-space z =
-        firstOf-none (edition_refusal first_length bytes) _ (editionRefusal-same first_length bytes one) ∙ firstOf-none (image_refusal bytes) _ z
+        first_of-none (edition_refusal first_length bytes) _ (edition_refusal-same first_length bytes one) ∙ first_of-none (image_refusal bytes) _ z
 
   module _ (two : body_size bytes ≡ body_length) where
     back-refused : (image_refusal bytes ≡ 0 → ⊥) → back_refusal bytes space ≡ image_refusal bytes
     unfolding back_refusal
     back-refused stands =
-        firstOf-none (edition_refusal body_length bytes) _ (editionRefusal-same body_length bytes two) ∙ firstOf-some (image_refusal bytes) _ stands
+        first_of-none (edition_refusal body_length bytes) _ (edition_refusal-same body_length bytes two) ∙ first_of_some (image_refusal bytes) _ stands
 
     module _ (z : image_refusal bytes ≡ 0) where
       back-checked : back_refusal bytes space ≡ first_of (settings_refusal (found bytes)) (space_refusal (length (back bytes)) space)
       unfolding back_refusal
       back-checked =
-          firstOf-none (edition_refusal body_length bytes) _ (editionRefusal-same body_length bytes two) ∙ firstOf-none (image_refusal bytes) _ z
+          first_of-none (edition_refusal body_length bytes) _ (edition_refusal-same body_length bytes two) ∙ first_of-none (image_refusal bytes) _ z
 
       back-settings : plain (found bytes) ≡ false → back_refusal bytes space ≡ 16
       back-settings e =
           let sixteen = settings_refusal-other (found bytes) e in
-          back-checked ∙ firstOf-some (settings_refusal (found bytes)) _ (λ n. omega (arith, n, sixteen)) ∙ sixteen
+          back-checked ∙ first_of_some (settings_refusal (found bytes)) _ (λ n. omega (arith, n, sixteen)) ∙ sixteen
 
       back-space : plain (found bytes) ≡ true → back_refusal bytes space ≡ space_refusal (length (back bytes)) space
-      back-space e = back-checked ∙ firstOf-none (settings_refusal (found bytes)) _ (settings_refusal-plain (found bytes) e)
+      back-space e = back-checked ∙ first_of-none (settings_refusal (found bytes)) _ (settings_refusal-plain (found bytes) e)
 
 -- ---- Moved
 moved-refused : (image space : List ℕ) {check n : ℕ} → check ≡ n → (n ≡ 0 → ⊥) → Moved image check space n space
@@ -164,8 +164,8 @@ moved_written : {image space space' : List ℕ} {check n : ℕ} → check ≡ sp
 moved_written {image} {space} last w =
     record {
       refusal = w.refusal ∙ sym last;
-      refused = λ stands. w.bytes ∙ imageWritten-refused image space (λ z. stands (last ∙ z));
-      moved = λ z. w.bytes ∙ imageWritten-room image space (sym last ∙ z);
+      refused = λ stands. w.bytes ∙ image_written-refused image space (λ z. stands (last ∙ z));
+      moved = λ z. w.bytes ∙ image_written-room image space (sym last ∙ z);
     }
 
 module _ (bytes space : List ℕ) where
@@ -203,7 +203,7 @@ module _ (bytes space : List ℕ) where
         -- a body of edition 2 was read as it is
         module _ (two : size ≡ body_length) where
           whole : body' ≡ found bytes
-          whole = read.taken zero ∙ completed-2 (found bytes) (length_found bytes ∙ sym told ∙ two)
+          whole = read.taken zero ∙ completed_2 (found bytes) (length_found bytes ∙ sym told ∙ two)
 
           pub back-other-settings : {t : Bool} → t ≡ plain body' → not t ≡ true → Moved (back bytes) (back_refusal bytes space) space 16 space
           back-other-settings test other =
@@ -234,20 +234,20 @@ module _ (bytes : List ℕ) (bound : Below 256 bytes) (z : image_refusal bytes �
               let size = forward-size bytes front one in
               let here = forward-found bytes front one in
               let known : image_refusal there ≡ 0 =
-              imageRefusal-kept there (λ e. omega (arith, e, size))
-              (ap (λ (b : List ℕ). body_kept (completed b)) here ∙ ap body_kept (completed-2 _ (added-long bytes front one)) ∙ accepted-kept bytes z) in
+              image_refusal-kept there (λ e. omega (arith, e, size))
+              (ap (λ (b : List ℕ). body_kept (completed b)) here ∙ ap body_kept (completed_2 _ (added-long bytes front one)) ∙ accepted-kept bytes z) in
               back-space there space size known (ap plain (here ∙ added bytes front one) ∙ plain-added (found bytes) (first-long bytes front one))
               ∙ ap (λ (n : ℕ). space_refusal n space) (length_back there size);
           same = λ front.
               ap (λ (b : List ℕ). sealed 1 (take first_length b)) (forward-found bytes front one)
               ∙ ap (sealed 1) (first ∙ found_sized bytes one)
-              ∙ sym (lastBytes-sealed 1 first_length bytes (size-1 bytes one) bound);
+              ∙ sym (last_bytes-sealed 1 first_length bytes (size_1 bytes one) bound);
         }
 
   module _ (two : body_size bytes ≡ body_length) (settings : plain (found bytes) ≡ true) where
     again : completed (take first_length (found bytes)) ≡ found bytes
     again =
-        completed-1 (take first_length (found bytes)) (front_long bytes [] two)
+        completed_1 (take first_length (found bytes)) (front_long bytes [] two)
         ∙ sym (plain-bytes (found bytes) (second-long bytes [] two) settings)
 
     pub back-and-forward : BackAndForward bytes
@@ -259,11 +259,11 @@ module _ (bytes : List ℕ) (bound : Below 256 bytes) (z : image_refusal bytes �
               let there = front ++ back bytes in
               let size = back-size bytes front two in
               let here : completed (found there) ≡ completed (found bytes) =
-              ap completed (back_found bytes front two) ∙ again ∙ sym (completed-2 (found bytes) (second-long bytes front two)) in
-              let known : image_refusal there ≡ 0 = imageRefusal-kept there (λ e. omega (arith, e, size)) (ap body_kept here ∙ accepted-kept bytes z) in
+              ap completed (back_found bytes front two) ∙ again ∙ sym (completed_2 (found bytes) (second-long bytes front two)) in
+              let known : image_refusal there ≡ 0 = image_refusal-kept there (λ e. omega (arith, e, size)) (ap body_kept here ∙ accepted-kept bytes z) in
               forward-space there space size known ∙ ap (λ (n : ℕ). space_refusal n space) (length-forward there size);
           same = λ front.
               ap (λ (b : List ℕ). sealed 2 (completed b)) (back_found bytes front two)
               ∙ ap (sealed 2) (again ∙ found_sized bytes two)
-              ∙ sym (lastBytes-sealed 2 body_length bytes (size-2 bytes two) bound);
+              ∙ sym (last_bytes-sealed 2 body_length bytes (size_2 bytes two) bound);
         }

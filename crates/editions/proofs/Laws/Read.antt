@@ -11,22 +11,22 @@ use Rattle.translation.proofs.Tests.{split, and_one, cond_true, cond_false}
 use Rattle.translation.proofs.Lists.{listed, take_listed}
 use Rattle.image_bytes.specs.Layout.{first_length, body_length}
 use Rattle.image_bytes.specs.Find.{body_size, found}
-use Rattle.image_bytes.proofs.Laws.Checks.{firstOf-none, firstOf-some}
+use Rattle.image_bytes.proofs.Laws.Checks.{first_of-none, first_of_some}
 use Rattle.image_bytes.proofs.Laws.Copy.{copied, copied_front}
-use Rattle.image_bytes.proofs.Laws.Find.{by_size, length_found, bodySize-most}
+use Rattle.image_bytes.proofs.Laws.Find.{by_size, length_found, body_size_most}
 use Rattle.body_rules.specs.Added.{unused_kept, first_set_kept, ps2_kept, second_set_kept, added_kept}
 use Rattle.body_rules.specs.Rules.{flags_kept, pending_kept, overlay_kept, sending_kept, code_kept, lock_kept, common_kept, body_kept}
 use Rattle.editions.specs.Read.{plain_bytes, completed, find_refusal, body_refusal, image_refusal, BodyRead}
 
 -- ---- completed
 module _ (b : List ℕ) where
-  pub completed-1 : length b ≡ first_length → completed b ≡ b ++ plain_bytes
+  pub completed_1 : length b ≡ first_length → completed b ≡ b ++ plain_bytes
   unfolding completed
-  completed-1 long = take_all body_length (b ++ plain_bytes) (omega (arith, length-append b plain_bytes))
+  completed_1 long = take_all body_length (b ++ plain_bytes) (omega (arith, length-append b plain_bytes))
 
-  pub completed-2 : length b ≡ body_length → completed b ≡ b
+  pub completed_2 : length b ≡ body_length → completed b ≡ b
   unfolding completed
-  completed-2 long = take_at b plain_bytes body_length long
+  completed_2 long = take_at b plain_bytes body_length long
 
 -- ---- body_refusal
 -- of a body of edition 1 only the rules of edition 1 are asked, since the four bytes keep theirs
@@ -34,48 +34,48 @@ pub body_kept_1 : (b : List ℕ) → length b ≡ first_length → body_kept (co
 unfolding body_kept common_kept flags_kept pending_kept overlay_kept sending_kept code_kept lock_kept added_kept unused_kept first_set_kept ps2_kept second_set_kept
 body_kept_1 b long =
     let whole : listed 0 60 b ≡ b = sym (take_listed 0 60 b (omega arith)) ∙ take_all 60 b (omega arith) in
-    ap body_kept (completed-1 b long)
+    ap body_kept (completed_1 b long)
     ∙ subst (λ (l : List ℕ). body_kept (l ++ plain_bytes) ≡ common_kept l) whole (and_one (common_kept (listed 0 60 b)))
 
 module _ (b : List ℕ) where
-  bodyRefusal-kept : body_kept (completed b) ≡ true → body_refusal b ≡ 0
+  body_refusal-kept : body_kept (completed b) ≡ true → body_refusal b ≡ 0
   unfolding body_refusal
-  bodyRefusal-kept e = cond_true _ _ _ e
+  body_refusal-kept e = cond_true _ _ _ e
 
-  bodyRefusal-broken : body_kept (completed b) ≡ false → body_refusal b ≡ 11
+  body_refusal-broken : body_kept (completed b) ≡ false → body_refusal b ≡ 11
   unfolding body_refusal
-  bodyRefusal-broken e = cond_false _ _ _ e
+  body_refusal-broken e = cond_false _ _ _ e
 
 -- ---- image_refusal
 module _ (bytes : List ℕ) where
-  findRefusal-none : body_size bytes ≡ 0 → find_refusal bytes ≡ 10
+  find_refusal-none : body_size bytes ≡ 0 → find_refusal bytes ≡ 10
   unfolding find_refusal
-  findRefusal-none e = cond_true _ _ _ (eq-eqb (body_size bytes) 0 e)
+  find_refusal-none e = cond_true _ _ _ (eq-eqb (body_size bytes) 0 e)
 
-  pub findRefusal-some : (body_size bytes ≡ 0 → ⊥) → find_refusal bytes ≡ 0
+  pub find_refusal_some : (body_size bytes ≡ 0 → ⊥) → find_refusal bytes ≡ 0
   unfolding find_refusal
-  findRefusal-some some = cond_false _ _ _ (ne_eqb (body_size bytes) 0 some)
+  find_refusal_some some = cond_false _ _ _ (ne_eqb (body_size bytes) 0 some)
 
-  pub imageRefusal-none : body_size bytes ≡ 0 → image_refusal bytes ≡ 10
-  imageRefusal-none e =
-      let ten = findRefusal-none e in
-      firstOf-some (find_refusal bytes) _ (λ z. omega (arith, z, ten)) ∙ ten
+  pub image_refusal-none : body_size bytes ≡ 0 → image_refusal bytes ≡ 10
+  image_refusal-none e =
+      let ten = find_refusal-none e in
+      first_of_some (find_refusal bytes) _ (λ z. omega (arith, z, ten)) ∙ ten
 
   module _ (some : body_size bytes ≡ 0 → ⊥) where
-    pub imageRefusal-broken : body_kept (completed (found bytes)) ≡ false → image_refusal bytes ≡ 11
-    imageRefusal-broken e = firstOf-none (find_refusal bytes) _ (findRefusal-some some) ∙ bodyRefusal-broken (found bytes) e
+    pub image_refusal-broken : body_kept (completed (found bytes)) ≡ false → image_refusal bytes ≡ 11
+    image_refusal-broken e = first_of-none (find_refusal bytes) _ (find_refusal_some some) ∙ body_refusal-broken (found bytes) e
 
-    pub imageRefusal-kept : body_kept (completed (found bytes)) ≡ true → image_refusal bytes ≡ 0
-    imageRefusal-kept e = firstOf-none (find_refusal bytes) _ (findRefusal-some some) ∙ bodyRefusal-kept (found bytes) e
+    pub image_refusal-kept : body_kept (completed (found bytes)) ≡ true → image_refusal bytes ≡ 0
+    image_refusal-kept e = first_of-none (find_refusal bytes) _ (find_refusal_some some) ∙ body_refusal-kept (found bytes) e
 
   -- and the other way round
   module _ (z : image_refusal bytes ≡ 0) where
     pub accepted-some : body_size bytes ≡ 0 → ⊥
-    accepted-some e = omega (arith, z, imageRefusal-none e)
+    accepted-some e = omega (arith, z, image_refusal-none e)
 
     pub accepted-kept : body_kept (completed (found bytes)) ≡ true
     accepted-kept =
-        split (body_kept (completed (found bytes))) (λ e. e) (λ e. absurd (omega (arith, z, imageRefusal-broken accepted-some e)))
+        split (body_kept (completed (found bytes))) (λ e. e) (λ e. absurd (omega (arith, z, image_refusal-broken accepted-some e)))
 
     pub length-completed : length (completed (found bytes)) ≡ body_length
     length-completed =
@@ -83,8 +83,8 @@ module _ (bytes : List ℕ) where
         (λ e. absurd (accepted-some e))
         (λ e _.
         let long = length_found bytes ∙ e in
-        ap length (completed-1 (found bytes) long) ∙ length-append (found bytes) plain_bytes ∙ omega arith)
-        (λ e _. let long = length_found bytes ∙ e in ap length (completed-2 (found bytes) long) ∙ long)
+        ap length (completed_1 (found bytes) long) ∙ length-append (found bytes) plain_bytes ∙ omega arith)
+        (λ e _. let long = length_found bytes ∙ e in ap length (completed_2 (found bytes) long) ∙ long)
 
 -- ---- BodyRead
 -- what the program copies a body over
@@ -98,27 +98,27 @@ copied_completed bytes some =
     (λ e. absurd (some e))
     (λ e _.
     let long = length_found bytes ∙ e in
-    copied_front b base ∙ ap (λ (k : ℕ). b ++ drop k base) long ∙ sym (completed-1 b long))
+    copied_front b base ∙ ap (λ (k : ℕ). b ++ drop k base) long ∙ sym (completed_1 b long))
     (λ e _.
     let long = length_found bytes ∙ e in
-    copied_front b base ∙ ap (λ (k : ℕ). b ++ drop k base) long ∙ append-nil b ∙ sym (completed-2 b long))
+    copied_front b base ∙ ap (λ (k : ℕ). b ++ drop k base) long ∙ append-nil b ∙ sym (completed_2 b long))
 
 module _ (bytes : List ℕ) where
-  pub read-long : {body body' : List ℕ} {n : ℕ} → BodyRead bytes body n body' → n ≡ 0 → length body' ≡ body_length
-  read-long read none = let z = sym read.refusal ∙ none in ap length (read.taken z) ∙ length-completed bytes z
+  pub read_long : {body body' : List ℕ} {n : ℕ} → BodyRead bytes body n body' → n ≡ 0 → length body' ≡ body_length
+  read_long read none = let z = sym read.refusal ∙ none in ap length (read.taken z) ∙ length-completed bytes z
 
-  read-refused : {body : List ℕ} {n : ℕ} → image_refusal bytes ≡ n → (n ≡ 0 → ⊥) → BodyRead bytes body n body
-  read-refused e stands = record { refusal = sym e; refused = λ _. refl; taken = λ z. absurd (stands (sym e ∙ z)) }
+  read_refused : {body : List ℕ} {n : ℕ} → image_refusal bytes ≡ n → (n ≡ 0 → ⊥) → BodyRead bytes body n body
+  read_refused e stands = record { refusal = sym e; refused = λ _. refl; taken = λ z. absurd (stands (sym e ∙ z)) }
 
   module _ {part : List ℕ} (here : part ≡ found bytes) where
     size : length part ≡ body_size bytes
     size = ap length here ∙ length_found bytes
 
     pub part-most : length part ≤ body_length
-    part-most = omega (arith, size, bodySize-most bytes)
+    part-most = omega (arith, size, body_size_most bytes)
 
     pub read_none : {body : List ℕ} → length part ≡ 0 → BodyRead bytes body 10 body
-    read_none none = read-refused (imageRefusal-none bytes (sym size ∙ none)) (λ e. omega arith)
+    read_none none = read_refused (image_refusal-none bytes (sym size ∙ none)) (λ e. omega arith)
 
     module _ {whole : List ℕ} {kept : Bool} (some : length part ≡ 0 → ⊥) (taken : whole ≡ copied part base) (test : kept ≡ body_kept whole) where
       there : body_size bytes ≡ 0 → ⊥
@@ -131,9 +131,9 @@ module _ (bytes : List ℕ) where
       judged = test ∙ ap body_kept same
 
       pub read-broken : {body : List ℕ} → not kept ≡ true → BodyRead bytes body 11 body
-      read-broken broken = read-refused (imageRefusal-broken bytes there (sym judged ∙ not-true _ broken)) (λ e. omega arith)
+      read-broken broken = read_refused (image_refusal-broken bytes there (sym judged ∙ not-true _ broken)) (λ e. omega arith)
 
       pub read_whole : {body : List ℕ} → not kept ≡ false → BodyRead bytes body 0 whole
       read_whole keeps =
-          let z = imageRefusal-kept bytes there (sym judged ∙ not-false _ keeps) in
+          let z = image_refusal-kept bytes there (sym judged ∙ not-false _ keeps) in
           record { refusal = sym z; refused = λ stands. absurd (stands z); taken = λ _. same }

@@ -12,7 +12,7 @@ use Rattle.translation.proofs.KeyTable.{built_in-passes}
 use Rattle.translation.proofs.Tests.{split, cond_true, cond_false}
 use Rattle.machine.specs.State.{Machine}
 use Rattle.state.specs.View.{state_length, given, at}
-use Rattle.image_bytes.proofs.Laws.Checks.{firstOf-none, firstOf-some, firstOf-zero}
+use Rattle.image_bytes.proofs.Laws.Checks.{first_of-none, first_of_some, first_of_zero}
 use Rattle.editions.specs.Read.{image_refusal}
 use Rattle.image.specs.Load.{load_refusal, resumed, loaded}
 
@@ -32,17 +32,17 @@ module _ (b : List ℕ) (long : length b ≡ 64) (version : ℕ) (table : List �
 
 -- ---- load_refusal
 module _ (table bytes : List ℕ) where
-  pub loadRefusal-image : (image_refusal bytes ≡ 0 → ⊥) → load_refusal table bytes ≡ image_refusal bytes
+  pub load_refusal-image : (image_refusal bytes ≡ 0 → ⊥) → load_refusal table bytes ≡ image_refusal bytes
   unfolding load_refusal
-  loadRefusal-image stands = firstOf-some (image_refusal bytes) (table_refusal table) stands
+  load_refusal-image stands = first_of_some (image_refusal bytes) (table_refusal table) stands
 
-  pub loadRefusal-table : image_refusal bytes ≡ 0 → load_refusal table bytes ≡ table_refusal table
+  pub load_refusal-table : image_refusal bytes ≡ 0 → load_refusal table bytes ≡ table_refusal table
   unfolding load_refusal
-  loadRefusal-table z = firstOf-none (image_refusal bytes) (table_refusal table) z
+  load_refusal-table z = first_of-none (image_refusal bytes) (table_refusal table) z
 
   pub accepted : load_refusal table bytes ≡ 0 → (image_refusal bytes ≡ 0) × (table_refusal table ≡ 0)
   unfolding load_refusal
-  accepted z = firstOf-zero (image_refusal bytes) (table_refusal table) z
+  accepted z = first_of_zero (image_refusal bytes) (table_refusal table) z
 
   -- ---- loaded
   module _ (version : ℕ) (m : Machine) where
@@ -59,5 +59,5 @@ module _ (table bytes : List ℕ) where
 pub load_refusal-built_in : (bytes : List ℕ) → load_refusal built_in bytes ≡ image_refusal bytes
 load_refusal-built_in bytes =
     split (eqb (image_refusal bytes) 0)
-    (λ e. let z = eqb-true (image_refusal bytes) 0 e in loadRefusal-table built_in bytes z ∙ built_in-passes ∙ sym z)
-    (λ e. loadRefusal-image built_in bytes (eqb-false (image_refusal bytes) 0 e))
+    (λ e. let z = eqb-true (image_refusal bytes) 0 e in load_refusal-table built_in bytes z ∙ built_in-passes ∙ sym z)
+    (λ e. load_refusal-image built_in bytes (eqb-false (image_refusal bytes) 0 e))

@@ -11,21 +11,21 @@ use Rattle.machine.specs.Settings.{settings_of}
 use Rattle.machine.specs.State.{fresh}
 use Rattle.state.specs.View.{state_length, body, given, state_of, view, IsState}
 use Rattle.state.specs.Started.{TableStarted}
-use Rattle.state.proofs.Laws.Body.{length-body, body-front}
+use Rattle.state.proofs.Laws.Body.{length-body, body_front}
 use Rattle.image_bytes.specs.Layout.{body_length, image_length, sealed}
 use Rattle.image_bytes.specs.Seal.{space_refusal, image_written, Written}
 use Rattle.image_bytes.specs.Find.{found}
 use Rattle.image_bytes.proofs.Laws.Copy.{copied, copied_front}
 use Rattle.image_bytes.proofs.Laws.Layout.{length-sealed}
-use Rattle.image_bytes.proofs.Laws.Seal.{take-imageWritten}
+use Rattle.image_bytes.proofs.Laws.Seal.{take-image_written}
 use Rattle.editions.specs.Read.{image_refusal, BodyRead}
-use Rattle.editions.proofs.Laws.Read.{read-long}
+use Rattle.editions.proofs.Laws.Read.{read_long}
 use Rattle.image.specs.Image.{image}
 use Rattle.image.specs.Load.{load_refusal, state_from}
 use Rattle.image.specs.Restored.{Restored}
 use Rattle.image.specs.Promises.{Saved, Loaded}
-use Rattle.image.proofs.Laws.Load.{loadRefusal-image, loadRefusal-table, loaded-refused, loaded-accepted}
-use Rattle.image.proofs.Laws.RoundTrip.{length-image, image-restored, found-isState, accepted-restored}
+use Rattle.image.proofs.Laws.Load.{load_refusal-image, load_refusal-table, loaded-refused, loaded-accepted}
+use Rattle.image.proofs.Laws.RoundTrip.{length-image, image-restored, found-is_state, accepted-restored}
 
 -- ---- Saved
 -- the state's first bytes were written as an image
@@ -35,7 +35,7 @@ saved_written {s} {space} {space'} {n} long w =
     let size : length (sealed 2 (take body_length s)) ≡ image_length =
     length-sealed 2 (take body_length s) ∙ omega (arith, length-take body_length s, long) in
     let machine : IsState s → space' ≡ image_written (image (view s)) space =
-    λ e. w.bytes ∙ ap (λ (b : List ℕ). image_written (sealed 2 b) space) (body-front s long e) in
+    λ e. w.bytes ∙ ap (λ (b : List ℕ). image_written (sealed 2 b) space) (body_front s long e) in
     record {
       refusal = w.refusal ∙ ap (λ (k : ℕ). space_refusal k space) size;
       bytes = w.bytes;
@@ -43,7 +43,7 @@ saved_written {s} {space} {space'} {n} long w =
       restored = λ z e k front.
           let long' = length-image (view s) k in
           let first : take image_length space' ≡ image (view s) =
-          ap₂ take (sym long') (machine e) ∙ take-imageWritten (image (view s)) space (ap (λ (j : ℕ). space_refusal j space) long' ∙ z) in
+          ap₂ take (sym long') (machine e) ∙ take-image_written (image (view s)) space (ap (λ (j : ℕ). space_refusal j space) long' ∙ z) in
           subst (λ (x : List ℕ). Restored (view s) (front ++ x)) (sym first) (image-restored (view s) k front);
     }
 
@@ -63,9 +63,9 @@ load-refused version table s bytes e stands =
 
 module _ (version : ℕ) (table : List ℕ) {s bytes space read' : List ℕ} {n : ℕ} (read : BodyRead bytes space n read') where
   -- no image was read
-  pub load-unread : (n ≡ 0 → ⊥) → Loaded version table s bytes n s
-  load-unread some =
-      load-refused version table s bytes (loadRefusal-image table bytes (λ z. some (read.refusal ∙ z)) ∙ sym read.refusal) some
+  pub load_unread : (n ≡ 0 → ⊥) → Loaded version table s bytes n s
+  load_unread some =
+      load-refused version table s bytes (load_refusal-image table bytes (λ z. some (read.refusal ∙ z)) ∙ sym read.refusal) some
 
   -- the table was refused, or the body is copied over the start
   module _ {k : ℕ} {t : List ℕ} (none : n ≡ 0) (start : TableStarted 0 version table s k t) where
@@ -76,21 +76,21 @@ module _ (version : ℕ) (table : List ℕ) {s bytes space read' : List ℕ} {n 
     load-other-table some =
         let same : t ≡ s = start.refused (λ z. some (start.refusal ∙ z)) in
         subst (Loaded version table s bytes k) (sym same)
-        (load-refused version table s bytes (loadRefusal-table table bytes zero ∙ sym start.refusal) some)
+        (load-refused version table s bytes (load_refusal-table table bytes zero ∙ sym start.refusal) some)
 
     pub load_stored : {s' : List ℕ} → version < 256 → Below 256 table → Below 256 bytes → k ≡ 0 → s' ≡ copied read' t → Loaded version table s bytes 0 s'
     unfolding fresh state_of
     load_stored {s'} low entries bound passed stored =
         let x = settings_of 0 version table in
         let passes : table_refusal table ≡ 0 = sym start.refusal ∙ passed in
-        let z : load_refusal table bytes ≡ 0 = loadRefusal-table table bytes zero ∙ passes in
-        let long : length read' ≡ 64 = read-long bytes read none in
+        let z : load_refusal table bytes ≡ 0 = load_refusal-table table bytes zero ∙ passes in
+        let long : length read' ≡ 64 = read_long bytes read none in
         let begun = start.started passes in
         let behind : drop 64 t ≡ given version table =
         ap (drop 64) begun.bytes ∙ drop_at (body (fresh x)) (given version table) 64 (length-body (fresh x) (omega arith) refl) in
         let same : s' ≡ state_from version table (found bytes) =
         stored ∙ copied_front read' t ∙ ap (λ (j : ℕ). read' ++ drop j t) long ∙ ap₂ (λ (a b : List ℕ). a ++ b) (read.taken zero) behind in
-        let is_state : IsState s' = subst IsState (sym same) (found-isState version table low entries bytes z) in
+        let is_state : IsState s' = subst IsState (sym same) (found-is_state version table low entries bytes z) in
         let restored : Restored (view s') bytes = subst (λ (l : List ℕ). Restored (view l) bytes) (sym same) (accepted-restored version table low entries bytes z bound) in
         record {
           refusal = sym z;

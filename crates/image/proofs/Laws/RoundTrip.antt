@@ -15,22 +15,22 @@ use Rattle.translation.proofs.Lists.{Below, below_take, below_drop, below_append
 use Rattle.machine.specs.State.{Machine}
 use Rattle.machine.specs.Kept.{Kept}
 use Rattle.state.specs.View.{state_length, body, given, state_of, view, IsState}
-use Rattle.state.proofs.Laws.Body.{length-body, view-state, tidy-state, body-front}
+use Rattle.state.proofs.Laws.Body.{length-body, view-state, tidy_state, body_front}
 use Rattle.image_bytes.specs.Layout.{body_length, image_length, sealed}
 use Rattle.image_bytes.specs.Find.{last_bytes, body_size, found}
 use Rattle.image_bytes.proofs.Laws.Layout.{length-sealed}
-use Rattle.image_bytes.proofs.Laws.Find.{sealed-2, by_size, found_sized, length_found}
-use Rattle.image_bytes.proofs.Laws.Trailer.{last_bytes-append, bodyOf-sealed, sealed-trailer, lastBytes-sealed}
+use Rattle.image_bytes.proofs.Laws.Find.{sealed_2, by_size, found_sized, length_found}
+use Rattle.image_bytes.proofs.Laws.Trailer.{last_bytes-append, body_of-sealed, sealed-trailer, last_bytes-sealed}
 use Rattle.body_rules.specs.Rules.{body_kept}
-use Rattle.body_rules.proofs.Laws.Rules.{Rules, bodyKept-rules, rules-bodyKept, body_kept_front}
+use Rattle.body_rules.proofs.Laws.Rules.{Rules, body_kept_rules, rules_body_kept, body_kept_front}
 use Rattle.editions.specs.Read.{plain_bytes, completed}
 use Rattle.editions.specs.Moves.{forward}
-use Rattle.editions.proofs.Laws.Read.{completed-2, imageRefusal-kept, accepted-kept, length-completed}
+use Rattle.editions.proofs.Laws.Read.{completed_2, image_refusal-kept, accepted-kept, length-completed}
 use Rattle.image.specs.Image.{image}
 use Rattle.image.specs.Load.{load_refusal, state_from, resumed, loaded}
 use Rattle.image.specs.Restored.{renewed, Restored, Exact}
-use Rattle.image.proofs.Laws.Load.{length-given, version-given, table-given, loadRefusal-table, accepted, loaded-accepted}
-use Rattle.image.proofs.Laws.Rules.{rules-tidy, view-kept, state-rules}
+use Rattle.image.proofs.Laws.Load.{length-given, version-given, table-given, load_refusal-table, accepted, loaded-accepted}
+use Rattle.image.proofs.Laws.Rules.{rules_tidy, view-kept, state_rules}
 
 -- ---- renewed
 renewed_2 : (bytes : List ℕ) → body_size bytes ≡ body_length → renewed bytes ≡ last_bytes image_length bytes
@@ -49,8 +49,8 @@ renewed-sealed bytes bound =
     (λ e. renewed-other bytes (λ two. omega (arith, e, two)))
     (λ e _. renewed-other bytes (λ two. omega (arith, e, two)))
     (λ two s.
-    renewed_2 bytes two ∙ lastBytes-sealed 2 body_length bytes s bound
-    ∙ ap (sealed 2) (sym (found_sized bytes two) ∙ sym (completed-2 (found bytes) (length_found bytes ∙ two))))
+    renewed_2 bytes two ∙ last_bytes-sealed 2 body_length bytes s bound
+    ∙ ap (sealed 2) (sym (found_sized bytes two) ∙ sym (completed_2 (found bytes) (length_found bytes ∙ two))))
 
 -- ---- the body of a machine that keeps the rules
 module _ (m : Machine) (k : Kept m) where
@@ -60,46 +60,46 @@ module _ (m : Machine) (k : Kept m) where
   abbrev table : List ℕ
   table = m.plain.settings.table
 
-  body-long : length (body m) ≡ body_length
-  body-long = length-body m k.code k.ram
+  body_long : length (body m) ≡ body_length
+  body_long = length-body m k.code k.ram
 
-  body_kept : body_kept (body m) ≡ true
+  body_is_kept : body_kept (body m) ≡ true
   unfolding state_of
-  body_kept = sym (body_kept_front (body m) (given version table) body-long) ∙ rules-bodyKept (state_of m) (state-rules m k)
+  body_is_kept = sym (body_kept_front (body m) (given version table) body_long) ∙ rules_body_kept (state_of m) (state_rules m k)
 
-  body-whole : completed (body m) ≡ body m
-  body-whole = completed-2 (body m) body-long
+  body_whole : completed (body m) ≡ body m
+  body_whole = completed_2 (body m) body_long
 
   pub length-image : length (image m) ≡ image_length
   unfolding image
-  length-image = length-sealed 2 (body m) ∙ ap (λ (n : ℕ). n + 8) body-long
+  length-image = length-sealed 2 (body m) ∙ ap (λ (n : ℕ). n + 8) body_long
 
   -- with its version byte and table behind it, it is the state
   resumed-body : view (state_from version table (body m)) ≡ m
   unfolding state_of
-  resumed-body = ap (λ (b : List ℕ). view (b ++ given version table)) body-whole ∙ view-state m k.code k.ram
+  resumed-body = ap (λ (b : List ℕ). view (b ++ given version table)) body_whole ∙ view-state m k.code k.ram
 
   -- ---- its image behind other bytes
   module _ (front : List ℕ) where
     image-size : body_size (front ++ image m) ≡ body_length
     unfolding image
-    image-size = sealed-2 (front ++ image m) (sealed-trailer 2 body_length front (body m) body-long (omega arith))
+    image-size = sealed_2 (front ++ image m) (sealed-trailer 2 body_length front (body m) body_long (omega arith))
 
     found-image : found (front ++ image m) ≡ body m
     unfolding image
-    found-image = found_sized (front ++ image m) image-size ∙ bodyOf-sealed 2 body_length front (body m) body-long
+    found-image = found_sized (front ++ image m) image-size ∙ body_of-sealed 2 body_length front (body m) body_long
 
     image-accepted : load_refusal table (front ++ image m) ≡ 0
     image-accepted =
-        loadRefusal-table table (front ++ image m)
-        (imageRefusal-kept (front ++ image m) (λ e. omega (arith, e, image-size)) (ap (λ (b : List ℕ). body_kept (completed b)) found-image ∙ ap body_kept body-whole ∙ body_kept))
+        load_refusal-table table (front ++ image m)
+        (image_refusal-kept (front ++ image m) (λ e. omega (arith, e, image-size)) (ap (λ (b : List ℕ). body_kept (completed b)) found-image ∙ ap body_kept body_whole ∙ body_is_kept))
         ∙ k.table
 
     pub image-restored : Restored m (front ++ image m)
     image-restored =
         record {
           accepted = image-accepted;
-          body = ap completed found-image ∙ body-whole;
+          body = ap completed found-image ∙ body_whole;
           machine = λ before.
               loaded-accepted table (front ++ image m) version before image-accepted
               ∙ ap (λ (b : List ℕ). view (state_from version table b)) found-image ∙ resumed-body;
@@ -128,13 +128,13 @@ module _ (version : ℕ) (table : List ℕ) (low : version < 256) (entries : Bel
     made-long = length-given b long version table (accepted-length table passes)
 
     made-rules : Rules made
-    made-rules = bodyKept-rules made (body_kept_front b (given version table) long ∙ kept)
+    made-rules = body_kept_rules made (body_kept_front b (given version table) long ∙ kept)
 
     made-state : IsState made
-    made-state = tidy-state made (rules-tidy made made-long made-rules)
+    made-state = tidy_state made (rules_tidy made made-long made-rules)
 
     made-body : b ≡ body (view made)
-    made-body = sym (take_at b (given version table) 64 long) ∙ body-front made made-long made-state
+    made-body = sym (take_at b (given version table) 64 long) ∙ body_front made made-long made-state
 
     made_kept : Below 256 b → Kept (view made)
     made_kept bound =
@@ -148,8 +148,8 @@ module _ (version : ℕ) (table : List ℕ) (low : version < 256) (entries : Bel
       record {
         sound = λ kept passes. (made-state kept passes, made_kept kept passes bound);
         complete = λ is_state k.
-            let rules : Rules made = subst Rules (sym is_state) (state-rules (view made) k) in (
-              sym (body_kept_front b (given version table) long) ∙ rules-bodyKept made rules,
+            let rules : Rules made = subst Rules (sym is_state) (state_rules (view made) k) in (
+              sym (body_kept_front b (given version table) long) ∙ rules_body_kept made rules,
               sym (ap table_refusal (table-given b long version table)) ∙ k.table,
             );
       }
@@ -159,15 +159,15 @@ module _ (version : ℕ) (table : List ℕ) (low : version < 256) (entries : Bel
   abbrev read : List ℕ
   read = completed (found bytes)
 
-  read-long : length read ≡ body_length
-  read-long = length-completed bytes (accepted table bytes z).0
+  read_long : length read ≡ body_length
+  read_long = length-completed bytes (accepted table bytes z).0
 
   read_kept : body_kept read ≡ true
   read_kept = accepted-kept bytes (accepted table bytes z).0
 
   -- the state that it makes is that of its machine
-  pub found-isState : IsState (state_from version table (found bytes))
-  found-isState = made-state version table low entries read read-long read_kept (accepted table bytes z).1
+  pub found-is_state : IsState (state_from version table (found bytes))
+  found-is_state = made-state version table low entries read read_long read_kept (accepted table bytes z).1
 
   read_below : Below 256 bytes → Below 256 read
   unfolding completed found
@@ -180,15 +180,15 @@ module _ (version : ℕ) (table : List ℕ) (low : version < 256) (entries : Bel
   unfolding image
   accepted-restored bound =
       let passes = (accepted table bytes z).1 in
-      let theirs = table-given read read-long version table in
-      let body_of = made-body version table low entries read read-long read_kept passes in
+      let theirs = table-given read read_long version table in
+      let body_of = made-body version table low entries read read_long read_kept passes in
       record {
         accepted = ap (λ (t : List ℕ). load_refusal t bytes) theirs ∙ z;
         body = body_of;
         machine = λ before.
-            ap₂ (λ (v : ℕ) (t : List ℕ). loaded v t before bytes) (version-given read read-long version table) theirs
+            ap₂ (λ (v : ℕ) (t : List ℕ). loaded v t before bytes) (version-given read read_long version table) theirs
             ∙ loaded-accepted table bytes version before z;
-        kept = made_kept version table low entries read read-long read_kept passes (read_below bound);
+        kept = made_kept version table low entries read read_long read_kept passes (read_below bound);
         again = ap (sealed 2) (sym body_of) ∙ sym (renewed-sealed bytes bound);
       }
 

@@ -16,29 +16,29 @@ use Rattle.machine.specs.Settings.{Settings}
 use Rattle.machine.specs.State.{Machine, Ports}
 use Rattle.machine.specs.Kept.{Kept}
 use Rattle.machine.proofs.Laws.Bounds.{nibble_below}
-use Rattle.machine.proofs.Laws.Bits.{nibble-1, nibble-2, nibble-3, nibble-byte, latches_below, latches-byte, overlay_below, eqb-nibble}
+use Rattle.machine.proofs.Laws.Bits.{nibble_1, nibble_2, nibble_3, nibble-byte, latches_below, latches-byte, overlay_below, eqb-nibble}
 use Rattle.state.specs.View.{state_length, added, body, given, state_of, at, view}
-use Rattle.state.proofs.Laws.Flags.{flags_full, flags-mouse, flags-locked, flags-below}
+use Rattle.state.proofs.Laws.Flags.{flags_full, flags-mouse, flags-locked, flags_below}
 use Rattle.state.proofs.Laws.Code.{code_long, code-byte}
 use Rattle.state.proofs.Laws.View.{ram_of}
-use Rattle.state.proofs.Laws.Body.{tidied, code-part, ram-part, byte-part, Tidy}
+use Rattle.state.proofs.Laws.Body.{tidied, code_part, ram-part, byte-part, Tidy}
 use Rattle.body_rules.specs.Rules.{every, is_zero, nonzero}
 use Rattle.body_rules.proofs.Laws.Rules.{CommonRules, AddedRules, Rules, every-at, every_all, every_zeros}
 
 -- ---- the machine of a state that keeps the rules
 -- bytes 60-63
 module _ (s : List ℕ) (r : AddedRules s) where
-  added-tidy : (k : ℕ) → tidied k (at s (60 + k)) ≡ at s (60 + k)
-  added-tidy zero = nibble-byte (at s 60) r.options
-  added-tidy (suc zero) = refl
-  added-tidy (suc (suc zero)) =
+  added_tidy : (k : ℕ) → tidied k (at s (60 + k)) ≡ at s (60 + k)
+  added_tidy zero = nibble-byte (at s 60) r.options
+  added_tidy (suc zero) = refl
+  added_tidy (suc (suc zero)) =
       let x = at s 62 in
       ap (λ (b : Bool). nibble (has x 0) (has x 1) b (has x 3)) (sym r.no_p24) ∙ nibble-byte x r.high_latches
-  added-tidy (suc (suc (suc zero))) =
+  added_tidy (suc (suc (suc zero))) =
       let x = at s 63 in
       ap (λ (b : Bool). nibble (has x 0) b false false) (sym (ne_eqb (x / 2 % 2) 1 (λ e. omega (arith, e, r.time_out))))
       ∙ latches-byte x (omega (arith, r.time_out))
-  added-tidy (suc (suc (suc (suc k)))) = refl
+  added_tidy (suc (suc (suc (suc k)))) = refl
 
 module _ (s : List ℕ) (long : length s ≡ state_length) (rules : Rules s) where
   abbrev r : CommonRules s
@@ -51,8 +51,8 @@ module _ (s : List ℕ) (long : length s ≡ state_length) (rules : Rules s) whe
   code = take 16 (drop 12 s)
 
   -- what stands for nothing in it is 0
-  pub rules-tidy : Tidy s
-  rules-tidy =
+  pub rules_tidy : Tidy s
+  rules_tidy =
       record {
         long = long;
         flags = r.flags;
@@ -66,7 +66,7 @@ module _ (s : List ℕ) (long : length s ≡ state_length) (rules : Rules s) whe
             ∙ ap (λ (j : ℕ). get_or code j 0) (sym past)
             ∙ sym (get_or-drop (at s 10) code (k - at s 10) 0)
             ∙ eqb-true _ 0 (every-at is_zero (drop (at s 10) code) r.after (k - at s 10) shown);
-        beyond = added-tidy s more;
+        beyond = added_tidy s more;
       }
 
   count-shown : length (take (at s 10) code) ≡ at s 10
@@ -115,13 +115,13 @@ module _ (s : List ℕ) (long : length s ≡ state_length) (rules : Rules s) whe
 
 -- ---- the body of a machine that keeps the rules
 module _ (m : Machine) (k : Kept m) where
-  common-rules : CommonRules (state_of m)
+  common_rules : CommonRules (state_of m)
   unfolding state_of body
-  common-rules =
+  common_rules =
       let p = m.plain in
       let c = m.secret.code in
       record {
-        flags = flags-below p;
+        flags = flags_below p;
         source = λ e. flags_full p ∙ k.source (sym (flags-mouse p) ∙ e);
         latches = latches_below p.ports.p20 p.ports.p21;
         pending = k.pending;
@@ -133,9 +133,9 @@ module _ (m : Machine) (k : Kept m) where
         to = k.to;
         no_sent = k.no_sent;
         count = k.code;
-        code = ap (λ (l : List ℕ). every nonzero (take (length c) l)) (code-part m k.code) ∙ ap (every nonzero) (take-append_seam c _) ∙ nonzeros;
+        code = ap (λ (l : List ℕ). every nonzero (take (length c) l)) (code_part m k.code) ∙ ap (every nonzero) (take-append_seam c _) ∙ nonzeros;
         after =
-            ap (λ (l : List ℕ). every is_zero (drop (length c) l)) (code-part m k.code)
+            ap (λ (l : List ℕ). every is_zero (drop (length c) l)) (code_part m k.code)
             ∙ ap (every is_zero) (drop-append_seam c _)
             ∙ every_zeros (16 - length c);
         locked = λ e. k.locked (sym (flags-locked p) ∙ e);
@@ -156,13 +156,13 @@ module _ (m : Machine) (k : Kept m) where
   byte = byte-part m k.code k.ram
 
   second : has (at (state_of m) 60) 2 ≡ x.second_set
-  second = ap (λ (n : ℕ). has n 2) (byte 0) ∙ nibble-2 x.mouse_lock x.at_mode x.second_set q.high_allowed
+  second = ap (λ (n : ℕ). has n 2) (byte 0) ∙ nibble_2 x.mouse_lock x.at_mode x.second_set q.high_allowed
 
   at-mode : has (at (state_of m) 60) 1 ≡ x.at_mode
-  at-mode = ap (λ (n : ℕ). has n 1) (byte 0) ∙ nibble-1 x.mouse_lock x.at_mode x.second_set q.high_allowed
+  at-mode = ap (λ (n : ℕ). has n 1) (byte 0) ∙ nibble_1 x.mouse_lock x.at_mode x.second_set q.high_allowed
 
   allowed : has (at (state_of m) 60) 3 ≡ q.high_allowed
-  allowed = ap (λ (n : ℕ). has n 3) (byte 0) ∙ nibble-3 x.mouse_lock x.at_mode x.second_set q.high_allowed
+  allowed = ap (λ (n : ℕ). has n 3) (byte 0) ∙ nibble_3 x.mouse_lock x.at_mode x.second_set q.high_allowed
 
   three : nibble true true false false ≡ 3
   unfolding nibble
@@ -176,13 +176,13 @@ module _ (m : Machine) (k : Kept m) where
   unfolding state_of body
   even = k.even_nibble
 
-  added-rules : AddedRules (state_of m)
-  added-rules =
+  added_rules : AddedRules (state_of m)
+  added_rules =
       record {
         options = omega (arith, byte 0, nibble_below x.mouse_lock x.at_mode x.second_set q.high_allowed);
         input_latches = omega (arith, byte 1, k.input_latches);
         high_latches = omega (arith, byte 2, nibble_below q.p22 q.p23 false q.p25);
-        no_p24 = ap (λ (n : ℕ). has n 2) (byte 2) ∙ nibble-2 q.p22 q.p23 false q.p25;
+        no_p24 = ap (λ (n : ℕ). has n 2) (byte 2) ∙ nibble_2 q.p22 q.p23 false q.p25;
         time_out = omega (arith, byte 3, overlay_below m.plain.errors.ttim);
         first_set = λ one. let f = k.first_set (sym second ∙ one) in (byte 1 ∙ f.0, allowed ∙ f.1);
         first_ps2 = λ one ps2.
@@ -192,11 +192,11 @@ module _ (m : Machine) (k : Kept m) where
             byte 2 ∙ (λ i. nibble (p22 i) (p23 i) false (k.p25 mode i)) ∙ three;
         ps2 = λ ps2.
             let mode = sym at-mode ∙ ps2 in (
-              ap (λ (n : ℕ). has n 3) (byte 2) ∙ nibble-3 q.p22 q.p23 false q.p25 ∙ k.p25 mode,
+              ap (λ (n : ℕ). has n 3) (byte 2) ∙ nibble_3 q.p22 q.p23 false q.p25 ∙ k.p25 mode,
               byte 3 ∙ (λ i. nibble (k.ttim mode i) false false false) ∙ none,
             );
         even_nibble = λ two. even (sym second ∙ two);
       }
 
-  pub state-rules : Rules (state_of m)
-  state-rules = record { common = common-rules; added = added-rules }
+  pub state_rules : Rules (state_of m)
+  state_rules = record { common = common_rules; added = added_rules }

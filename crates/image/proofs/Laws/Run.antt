@@ -15,8 +15,8 @@ use Rattle.machine.proofs.Laws.Settings.{after-settings}
 use Rattle.machine.proofs.Laws.Run.{after_kept, after-append, answers-append}
 use Rattle.controller.specs.Promises.{ListRun}
 use Rattle.image_bytes.specs.Layout.{image_length}
-use Rattle.image_bytes.proofs.Laws.Checks.{firstOf-none, firstOf-some}
-use Rattle.image_bytes.proofs.Laws.Seal.{spaceRefusal-short, spaceRefusal-room}
+use Rattle.image_bytes.proofs.Laws.Checks.{first_of-none, first_of_some}
+use Rattle.image_bytes.proofs.Laws.Seal.{space_refusal_short, space_refusal-room}
 use Rattle.image.specs.Image.{image}
 use Rattle.image.specs.Load.{load_refusal, resumed}
 use Rattle.image.specs.Save.{save_refusal, saved}
@@ -28,24 +28,24 @@ use Rattle.image.proofs.Laws.RoundTrip.{image-restored}
 
 -- ---- run_refusal
 module _ (table bytes list space room : List ℕ) where
-  refusal-list : (list_refusal list space ≡ 0 → ⊥) → run_refusal table bytes list space room ≡ list_refusal list space
+  refusal_list : (list_refusal list space ≡ 0 → ⊥) → run_refusal table bytes list space room ≡ list_refusal list space
   unfolding run_refusal
-  refusal-list stands = firstOf-some (list_refusal list space) _ stands
+  refusal_list stands = first_of_some (list_refusal list space) _ stands
 
   refusal-room : list_refusal list space ≡ 0 → (save_refusal room ≡ 0 → ⊥) → run_refusal table bytes list space room ≡ save_refusal room
   unfolding run_refusal
-  refusal-room a stands = firstOf-none (list_refusal list space) _ a ∙ firstOf-some (save_refusal room) _ stands
+  refusal-room a stands = first_of-none (list_refusal list space) _ a ∙ first_of_some (save_refusal room) _ stands
 
   refusal-load : list_refusal list space ≡ 0 → save_refusal room ≡ 0 → run_refusal table bytes list space room ≡ load_refusal table bytes
   unfolding run_refusal
-  refusal-load a b = firstOf-none (list_refusal list space) _ a ∙ firstOf-none (save_refusal room) _ b
+  refusal-load a b = first_of-none (list_refusal list space) _ a ∙ first_of-none (save_refusal room) _ b
 
 -- by what a load came to
 refusal-loaded : (list space room : List ℕ) {version : ℕ} {table s bytes t : List ℕ} {n : ℕ} → list_refusal list space ≡ 0 → image_length ≤ length room →
     Loaded version table s bytes n t →
     n ≡ run_refusal table bytes list space room
 refusal-loaded list space room {table = table} {bytes = bytes} a enough load =
-    load.refusal ∙ sym (refusal-load table bytes list space room a (spaceRefusal-room image_length room enough))
+    load.refusal ∙ sym (refusal-load table bytes list space room a (space_refusal-room image_length room enough))
 
 -- ---- SplitRun
 module _ {version : ℕ} {table : List ℕ} (m : Machine) (es : List Event) (front : List ℕ) (k : Kept m)
@@ -61,11 +61,11 @@ module _ {version : ℕ} {table : List ℕ} (m : Machine) (es : List Event) (fro
   table-after : (after m es).plain.settings.table ≡ table
   table-after = ap (λ (x : Settings). x.table) (after-settings m es) ∙ same_table
 
-  middle-accepted : load_refusal table bytes ≡ 0
-  middle-accepted = sym (ap (λ (t : List ℕ). load_refusal t bytes) table-after) ∙ middle.accepted
+  middle_accepted : load_refusal table bytes ≡ 0
+  middle_accepted = sym (ap (λ (t : List ℕ). load_refusal t bytes) table-after) ∙ middle.accepted
 
-  middle-resumed : resumed version table bytes ≡ after m es
-  middle-resumed =
+  middle_resumed : resumed version table bytes ≡ after m es
+  middle_resumed =
       sym (ap₂ (λ (v : ℕ) (t : List ℕ). resumed v t bytes) version-after table-after)
       ∙ sym (loaded-accepted _ bytes _ m middle.accepted) ∙ middle.machine m
 
@@ -75,7 +75,7 @@ module _ {version : ℕ} {table : List ℕ} (m : Machine) (es : List Event) (fro
       SplitRun m es fs space room space' room'
   unfolding filled
   split-run fs {space} {room} answered imaged =
-      let v = middle-resumed in
+      let v = middle_resumed in
       let rest = drop (9 * length fs) space in
       record {
         answered =
@@ -87,32 +87,32 @@ module _ {version : ℕ} {table : List ℕ} (m : Machine) (es : List Event) (fro
 
 -- ---- ImageRun
 module _ (version : ℕ) (table : List ℕ) {bytes list space room : List ℕ} where
-  call-refused : {n : ℕ} → n ≡ run_refusal table bytes list space room → (n ≡ 0 → ⊥) → ImageRun version table bytes list space room n space room
-  call-refused e stands =
+  call_refused : {n : ℕ} → n ≡ run_refusal table bytes list space room → (n ≡ 0 → ⊥) → ImageRun version table bytes list space room n space room
+  call_refused e stands =
       record {
         refusal = e;
         refused = λ _. (refl, refl);
         answered = λ z. absurd (stands (e ∙ z));
         imaged = λ z. absurd (stands (e ∙ z));
         split = λ m es front k v t here a b.
-            absurd (stands (e ∙ refusal-load table bytes list space room a b ∙ middle-accepted m es front k v t here));
+            absurd (stands (e ∙ refusal-load table bytes list space room a b ∙ middle_accepted m es front k v t here));
       }
 
   -- l is what the checks of the list came to
   module _ {l : ℕ} (listed : l ≡ list_refusal list space) where
     pub refused-list : (l ≡ 0 → ⊥) → ImageRun version table bytes list space room l space room
-    refused-list stands = call-refused (listed ∙ sym (refusal-list table bytes list space room (λ z. stands (listed ∙ z)))) stands
+    refused-list stands = call_refused (listed ∙ sym (refusal_list table bytes list space room (λ z. stands (listed ∙ z)))) stands
 
     module _ (fits : l ≡ 0) where
       pub refused-room : length room < image_length → ImageRun version table bytes list space room 9 space room
       refused-room short =
-          let nine = spaceRefusal-short image_length room short in
-          call-refused (sym nine ∙ sym (refusal-room table bytes list space room (sym listed ∙ fits) (λ z. omega (arith, z, nine)))) (λ z. omega arith)
+          let nine = space_refusal_short image_length room short in
+          call_refused (sym nine ∙ sym (refusal-room table bytes list space room (sym listed ∙ fits) (λ z. omega (arith, z, nine)))) (λ z. omega arith)
 
       -- t is the state after the load, and n what it came to
       module _ {s t : List ℕ} {n : ℕ} (enough : image_length ≤ length room) (load : Loaded version table s bytes n t) where
         pub refused-load : (n ≡ 0 → ⊥) → ImageRun version table bytes list space room n space room
-        refused-load stands = call-refused (refusal-loaded list space room (sym listed ∙ fits) enough load) stands
+        refused-load stands = call_refused (refusal-loaded list space room (sym listed ∙ fits) enough load) stands
 
         -- u is the state after the run
         pub loaded-ran-saved : {u space' room' : List ℕ} {l' n' : ℕ} → n ≡ 0 → ListRun t list space l' u space' → Saved u room n' room' →

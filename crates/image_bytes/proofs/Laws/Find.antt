@@ -77,8 +77,8 @@ module _ (edition n : ℕ) (bytes : List ℕ) where
       (and_both _ _ s.mark (and_both _ _ (eq-eqb _ _ s.number) (and_both _ _ (eq-eqb _ _ s.distance) (eq-eqb _ _ s.total))))
 
   -- the distance where it stands in the bytes
-  pub sealed-distance : Sealed edition n bytes → word (get_or bytes (length bytes - 8) 0) (get_or bytes (length bytes - 8 + 1) 0) ≡ n
-  sealed-distance s = sym (ap₂ word (at-trailer-first bytes) (at-trailer bytes 1)) ∙ s.distance
+  pub sealed_distance : Sealed edition n bytes → word (get_or bytes (length bytes - 8) 0) (get_or bytes (length bytes - 8 + 1) 0) ≡ n
+  sealed_distance s = sym (ap₂ word (at-trailer-first bytes) (at-trailer bytes 1)) ∙ s.distance
 
 -- ---- body_size
 -- an image of either edition
@@ -91,27 +91,27 @@ pub record Image (bytes : List ℕ) : Type 0 where
   pub most : size ≤ body_length
 
 module _ (bytes : List ℕ) where
-  pub bodySize-none : ends 1 first_length bytes ≡ false → ends 2 body_length bytes ≡ false → body_size bytes ≡ 0
+  pub body_size-none : ends 1 first_length bytes ≡ false → ends 2 body_length bytes ≡ false → body_size bytes ≡ 0
   unfolding body_size
-  bodySize-none e f = cond_false _ _ _ e ∙ cond_false _ _ _ f
+  body_size-none e f = cond_false _ _ _ e ∙ cond_false _ _ _ f
 
-  pub bodySize-1 : ends 1 first_length bytes ≡ true → body_size bytes ≡ first_length
+  pub body_size_1 : ends 1 first_length bytes ≡ true → body_size bytes ≡ first_length
   unfolding body_size
-  bodySize-1 e = cond_true _ _ _ e
+  body_size_1 e = cond_true _ _ _ e
 
-  pub bodySize-2 : ends 1 first_length bytes ≡ false → ends 2 body_length bytes ≡ true → body_size bytes ≡ body_length
+  pub body_size_2 : ends 1 first_length bytes ≡ false → ends 2 body_length bytes ≡ true → body_size bytes ≡ body_length
   unfolding body_size
-  bodySize-2 e f = cond_false _ _ _ e ∙ cond_true _ _ _ f
+  body_size_2 e f = cond_false _ _ _ e ∙ cond_true _ _ _ f
 
   -- a trailer names one edition
-  pub sealed-1 : Sealed 1 first_length bytes → body_size bytes ≡ first_length
-  sealed-1 s = bodySize-1 (sealed-ends 1 first_length bytes s)
+  pub sealed_1 : Sealed 1 first_length bytes → body_size bytes ≡ first_length
+  sealed_1 s = body_size_1 (sealed-ends 1 first_length bytes s)
 
-  pub sealed-2 : Sealed 2 body_length bytes → body_size bytes ≡ body_length
-  sealed-2 s =
+  pub sealed_2 : Sealed 2 body_length bytes → body_size bytes ≡ body_length
+  sealed_2 s =
       split (ends 1 first_length bytes)
       (λ e. absurd (omega (arith, s.number, (ends-sealed 1 first_length bytes e).number)))
-      (λ e. bodySize-2 e (sealed-ends 2 body_length bytes s))
+      (λ e. body_size_2 e (sealed-ends 2 body_length bytes s))
 
   -- and the other way round
   module _ {A : Type 0} (none : body_size bytes ≡ 0 → A) (one : body_size bytes ≡ first_length → Sealed 1 first_length bytes → A)
@@ -119,26 +119,26 @@ module _ (bytes : List ℕ) where
     pub by_size : A
     by_size =
         split (ends 1 first_length bytes)
-        (λ e. one (bodySize-1 e) (ends-sealed 1 first_length bytes e))
+        (λ e. one (body_size_1 e) (ends-sealed 1 first_length bytes e))
         (λ e. split (ends 2 body_length bytes)
-        (λ f. two (bodySize-2 e f) (ends-sealed 2 body_length bytes f))
-        (λ f. none (bodySize-none e f)))
+        (λ f. two (body_size_2 e f) (ends-sealed 2 body_length bytes f))
+        (λ f. none (body_size-none e f)))
 
-  pub size-1 : body_size bytes ≡ first_length → Sealed 1 first_length bytes
-  size-1 e = by_size (λ z. absurd (omega arith)) (λ _ s. s) (λ z _. absurd (omega arith))
+  pub size_1 : body_size bytes ≡ first_length → Sealed 1 first_length bytes
+  size_1 e = by_size (λ z. absurd (omega arith)) (λ _ s. s) (λ z _. absurd (omega arith))
 
-  pub size-2 : body_size bytes ≡ body_length → Sealed 2 body_length bytes
-  size-2 e = by_size (λ z. absurd (omega arith)) (λ z _. absurd (omega arith)) (λ _ s. s)
+  pub size_2 : body_size bytes ≡ body_length → Sealed 2 body_length bytes
+  size_2 e = by_size (λ z. absurd (omega arith)) (λ z _. absurd (omega arith)) (λ _ s. s)
 
-  pub image-of : (body_size bytes ≡ 0 → ⊥) → Image bytes
-  image-of some =
+  pub image_of : (body_size bytes ≡ 0 → ⊥) → Image bytes
+  image_of some =
       by_size
       (λ z. absurd (some z))
       (λ e s. record { edition = 1; size = first_length; counted = e; parts = s; least = omega arith; most = omega arith })
       (λ e s. record { edition = 2; size = body_length; counted = e; parts = s; least = omega arith; most = omega arith })
 
-  pub bodySize-most : body_size bytes ≤ body_length
-  bodySize-most = by_size (λ e. omega arith) (λ e _. omega arith) (λ e _. omega arith)
+  pub body_size_most : body_size bytes ≤ body_length
+  body_size_most = by_size (λ e. omega arith) (λ e _. omega arith) (λ e _. omega arith)
 
 -- ---- found
 pub found_sized : (bytes : List ℕ) {n : ℕ} → body_size bytes ≡ n → found bytes ≡ body_of n bytes
@@ -150,7 +150,7 @@ length_found bytes =
     split (eqb (body_size bytes) 0)
     (λ e. let none = eqb-true (body_size bytes) 0 e in ap length (found_sized bytes none) ∙ sym none)
     (λ e.
-    let i = image-of bytes (eqb-false (body_size bytes) 0 e) in
+    let i = image_of bytes (eqb-false (body_size bytes) 0 e) in
     ap length (found_sized bytes i.counted) ∙ length-body_of i.size bytes i.parts.room ∙ sym i.counted)
 
 -- ---- body_start
@@ -169,12 +169,12 @@ body_start_pointed bytes i back =
 
 -- a start that was found: the length exactly where check 10 refuses the bytes
 module _ (bytes : List ℕ) {start : ℕ} (here : start ≡ body_start bytes) where
-  pub past-none : start ≡ length bytes → body_size bytes ≡ 0
-  past-none past =
+  pub past_none : start ≡ length bytes → body_size bytes ≡ 0
+  past_none past =
       split (eqb (body_size bytes) 0) (λ e. eqb-true _ 0 e)
       (λ e.
       let some = eqb-false (body_size bytes) 0 e in
-      let i = image-of bytes some in
+      let i = image_of bytes some in
       absurd (omega (arith, past, here, body_start_some bytes some, i.counted, i.least, i.parts.room)))
 
   module _ (before : start ≡ length bytes → ⊥) where
@@ -183,7 +183,7 @@ module _ (bytes : List ℕ) {start : ℕ} (here : start ≡ body_start bytes) wh
 
     pub start-room : (start ≡ length bytes - 8 - body_size bytes) × (body_size bytes + 8 ≤ length bytes)
     start-room =
-        let i = image-of bytes start-some in
+        let i = image_of bytes start-some in
         (here ∙ body_start_some bytes start-some ∙ omega arith, omega (arith, i.counted, i.parts.room))
 
 -- ---- BodyFound, with the place of the part as the rule of a part gives it
@@ -193,13 +193,13 @@ module _ {bytes : List ℕ} {lent : ℕ × ℕ} {start : ℕ} (here : start ≡ 
   found_nowhere past at =
       let none : length bytes - start ≡ 0 = omega arith in
       record {
-        contents = ap (λ (k : ℕ). take k (drop start bytes)) none ∙ sym (found_sized bytes (past-none bytes here past));
+        contents = ap (λ (k : ℕ). take k (drop start bytes)) none ∙ sym (found_sized bytes (past_none bytes here past));
         start = at ∙ ap (further lent) here;
       }
 
-  pub found-there : {place : ℕ × ℕ} → (start ≡ length bytes → ⊥) → place ≡ further lent start →
+  pub found_there : {place : ℕ × ℕ} → (start ≡ length bytes → ⊥) → place ≡ further lent start →
       BodyFound bytes lent (take (length bytes - 8 - start) (drop start bytes)) place
-  found-there before at =
+  found_there before at =
       let (back, enough) = start-room bytes here before in
       record {
         contents =

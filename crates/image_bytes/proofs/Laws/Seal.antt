@@ -10,35 +10,35 @@ use Rattle.image_bytes.proofs.Laws.Copy.{copied, copied_front}
 
 -- ---- space_refusal
 module _ (n : ℕ) (space : List ℕ) where
-  pub spaceRefusal-short : length space < n → space_refusal n space ≡ 9
+  pub space_refusal_short : length space < n → space_refusal n space ≡ 9
   unfolding space_refusal
-  spaceRefusal-short h = cond_true _ _ _ (lt-ltb _ _ h)
+  space_refusal_short h = cond_true _ _ _ (lt-ltb _ _ h)
 
-  pub spaceRefusal-room : n ≤ length space → space_refusal n space ≡ 0
+  pub space_refusal-room : n ≤ length space → space_refusal n space ≡ 0
   unfolding space_refusal
-  spaceRefusal-room h = cond_false _ _ _ (le-ltb _ _ h)
+  space_refusal-room h = cond_false _ _ _ (le-ltb _ _ h)
 
 module _ (image space : List ℕ) where
   -- ---- image_written
-  pub imageWritten-refused : (space_refusal (length image) space ≡ 0 → ⊥) → image_written image space ≡ space
+  pub image_written-refused : (space_refusal (length image) space ≡ 0 → ⊥) → image_written image space ≡ space
   unfolding image_written
-  imageWritten-refused stands = cond_false _ _ _ (ne_eqb _ 0 stands)
+  image_written-refused stands = cond_false _ _ _ (ne_eqb _ 0 stands)
 
-  pub imageWritten-room : space_refusal (length image) space ≡ 0 → image_written image space ≡ image ++ drop (length image) space
+  pub image_written-room : space_refusal (length image) space ≡ 0 → image_written image space ≡ image ++ drop (length image) space
   unfolding image_written
-  imageWritten-room z = cond_true _ _ _ (eq-eqb _ 0 z)
+  image_written-room z = cond_true _ _ _ (eq-eqb _ 0 z)
 
-  pub take-imageWritten : space_refusal (length image) space ≡ 0 → take (length image) (image_written image space) ≡ image
-  take-imageWritten z = ap (take (length image)) (imageWritten-room z) ∙ take-append_seam image _
+  pub take-image_written : space_refusal (length image) space ≡ 0 → take (length image) (image_written image space) ≡ image
+  take-image_written z = ap (take (length image)) (image_written-room z) ∙ take-append_seam image _
 
   -- ---- Written
-  pub written-short : length space < length image → Written image space 9 space
-  written-short h =
-      let nine = spaceRefusal-short (length image) space h in
-      record { refusal = sym nine; bytes = sym (imageWritten-refused (λ z. omega (arith, z, nine))) }
+  pub written_short : length space < length image → Written image space 9 space
+  written_short h =
+      let nine = space_refusal_short (length image) space h in
+      record { refusal = sym nine; bytes = sym (image_written-refused (λ z. omega (arith, z, nine))) }
 
-  pub written-room : {space' : List ℕ} → length image ≤ length space → space' ≡ image ++ drop (length image) space → Written image space 0 space'
-  written-room h e = let z = spaceRefusal-room (length image) space h in record { refusal = sym z; bytes = e ∙ sym (imageWritten-room z) }
+  pub written_room : {space' : List ℕ} → length image ≤ length space → space' ≡ image ++ drop (length image) space → Written image space 0 space'
+  written_room h e = let z = space_refusal-room (length image) space h in record { refusal = sym z; bytes = e ∙ sym (image_written-room z) }
 
 -- a body copied to the front of d, and its trailer behind it over the front of the rest, which comes back as ys
 pub sealed_written : (edition : ℕ) (b d : List ℕ) {d₁ ys tail : List ℕ} → length (sealed edition b) ≤ length d →
@@ -52,4 +52,4 @@ sealed_written edition b d {d₁} {ys} {tail} enough first t second =
     let both : handed (length b) d₁ ys ≡ sealed edition b ++ drop (length b + 8) d =
     handed_on (length b) 8 b (trailer edition b) d d₁ ys refl (first ∙ copied_front b d)
     (second ∙ copied_front tail rest ∙ ap (λ (x : List ℕ). x ++ drop (length x) rest) t) in
-    written-room (sealed edition b) d enough (both ∙ ap (λ (k : ℕ). sealed edition b ++ drop k d) (sym (length-sealed edition b)))
+    written_room (sealed edition b) d enough (both ∙ ap (λ (k : ℕ). sealed edition b ++ drop k d) (sym (length-sealed edition b)))

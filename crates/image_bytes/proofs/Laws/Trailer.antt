@@ -21,50 +21,50 @@ module _ (edition n : ℕ) (front b : List ℕ) (long : length b ≡ n) where
   abbrev bytes : List ℕ
   bytes = front ++ sealed edition b
 
-  sealed-long : length (sealed edition b) ≡ n + 8
-  sealed-long = length-sealed edition b ∙ ap (λ (k : ℕ). k + 8) long
+  sealed_long : length (sealed edition b) ≡ n + 8
+  sealed_long = length-sealed edition b ∙ ap (λ (k : ℕ). k + 8) long
 
-  trailerOf-sealed : trailer_of bytes ≡ trailer edition b
+  trailer_of-sealed : trailer_of bytes ≡ trailer edition b
   unfolding sealed trailer
-  trailerOf-sealed =
+  trailer_of-sealed =
       ap trailer_of (sym (append_assoc front b (trailer edition b))) ∙ last_bytes-append (front ++ b) (trailer edition b) 8 refl
 
-  pub bodyOf-sealed : body_of n bytes ≡ b
+  pub body_of-sealed : body_of n bytes ≡ b
   unfolding sealed
-  bodyOf-sealed =
-      ap (take n) (last_bytes-append front (sealed edition b) (n + 8) sealed-long) ∙ take_at b (trailer edition b) n long
+  body_of-sealed =
+      ap (take n) (last_bytes-append front (sealed edition b) (n + 8) sealed_long) ∙ take_at b (trailer edition b) n long
 
   pub sealed-trailer : n < 65536 → Sealed edition n bytes
   unfolding trailer
   sealed-trailer small =
       record {
-        room = omega (arith, length-append front (sealed edition b), sealed-long);
-        mark = ap marked trailerOf-sealed;
-        number = ap edition_of trailerOf-sealed;
-        distance = ap distance_of trailerOf-sealed ∙ word_of_bytes (length b) (omega arith) ∙ long;
+        room = omega (arith, length-append front (sealed edition b), sealed_long);
+        mark = ap marked trailer_of-sealed;
+        number = ap edition_of trailer_of-sealed;
+        distance = ap distance_of trailer_of-sealed ∙ word_of_bytes (length b) (omega arith) ∙ long;
         total =
-            ap sum_of trailerOf-sealed
+            ap sum_of trailer_of-sealed
             ∙ word_of_bytes (word_sum b) (word_sum_below b)
-            ∙ ap word_sum (sym bodyOf-sealed);
+            ∙ ap word_sum (sym body_of-sealed);
       }
 
 -- ---- and the other way round
 module _ (edition n : ℕ) (bytes : List ℕ) (s : Sealed edition n bytes) where
-  lastBytes-parts : last_bytes (n + 8) bytes ≡ body_of n bytes ++ trailer_of bytes
-  lastBytes-parts =
+  last_bytes_parts : last_bytes (n + 8) bytes ≡ body_of n bytes ++ trailer_of bytes
+  last_bytes_parts =
       let l = last_bytes (n + 8) bytes in
       let start : length bytes - (n + 8) + n ≡ length bytes - 8 = omega (arith, s.room) in
       sym (take-append-drop n l)
       ∙ ap (λ (r : List ℕ). body_of n bytes ++ r) (drop-drop n (length bytes - (n + 8)) bytes ∙ ap (λ (k : ℕ). drop k bytes) start)
 
-  trailerOf-listed : trailer_of bytes ≡ listed 0 8 (trailer_of bytes)
-  trailerOf-listed =
+  trailer_of_listed : trailer_of bytes ≡ listed 0 8 (trailer_of bytes)
+  trailer_of_listed =
       let eight : length (trailer_of bytes) ≡ 8 = length-drop (length bytes - 8) bytes ∙ omega (arith, s.room) in
       sym (take_all 8 (trailer_of bytes) (omega arith)) ∙ take_listed 0 8 (trailer_of bytes) (omega arith)
 
-  trailerOf-trailer : Below 256 bytes → trailer_of bytes ≡ trailer edition (body_of n bytes)
+  trailer_of-trailer : Below 256 bytes → trailer_of bytes ≡ trailer edition (body_of n bytes)
   unfolding trailer
-  trailerOf-trailer bound =
+  trailer_of-trailer bound =
       let t = trailer_of bytes in
       let b = body_of n bytes in
       let low : Below 256 t = below_drop 256 (length bytes - 8) bytes bound in
@@ -79,9 +79,9 @@ module _ (edition n : ℕ) (bytes : List ℕ) (s : Sealed edition n bytes) where
       let e6 : get_or t 6 0 ≡ 0x42 = eqb-true (get_or t 6 0) 0x42 m2.0 in
       let e7 : get_or t 7 0 ≡ 0x43 = eqb-true (get_or t 7 0) 0x43 m2.1 in
       let all : listed 0 8 t ≡ trailer edition b = λ i. e0 i ∷ e1 i ∷ e2 i ∷ e3 i ∷ s.number i ∷ e5 i ∷ e6 i ∷ e7 i ∷ [] in
-      trailerOf-listed ∙ all
+      trailer_of_listed ∙ all
 
   -- the last bytes are the body with its trailer
-  pub lastBytes-sealed : Below 256 bytes → last_bytes (n + 8) bytes ≡ sealed edition (body_of n bytes)
+  pub last_bytes-sealed : Below 256 bytes → last_bytes (n + 8) bytes ≡ sealed edition (body_of n bytes)
   unfolding sealed
-  lastBytes-sealed bound = lastBytes-parts ∙ ap (λ (r : List ℕ). body_of n bytes ++ r) (trailerOf-trailer bound)
+  last_bytes-sealed bound = last_bytes_parts ∙ ap (λ (r : List ℕ). body_of n bytes ++ r) (trailer_of-trailer bound)

@@ -19,7 +19,7 @@ use Rattle.machine.specs.Devices.{errors_set, positioned, key_error, breaking, d
 use Rattle.machine.specs.Devices.{yield_delivered, byte_delivered, translated, sound_key, keyboard_frame, mouse_frame, taken, timed_out, pinned}
 use Rattle.machine.specs.Lock.{key_completes}
 use Rattle.machine.specs.Events.{Event, value, limit, refusal, emptied, accept, step, pulse, reply, answer}
-use Rattle.machine.proofs.Laws.Events.{accept-keyboard}
+use Rattle.machine.proofs.Laws.Events.{accept_keyboard}
 
 pub record Alike (m n : Machine) : Type 0 where
   pub plain : m.plain ≡ n.plain
@@ -208,7 +208,7 @@ accept_alike {m} {n} e h =
     split (eqb e.kind 4)
     (λ t.
     let k : e.kind ≡ 4 = eqb-true _ _ t in
-    rw (accept-keyboard m e k, accept-keyboard n e k) (keyboard_frame_alike (check (value e)) h))
+    rw (accept_keyboard m e k, accept_keyboard n e k) (keyboard_frame_alike (check (value e)) h))
     (λ t together. unfold accept in
     cond_alike (eqb e.kind 0) (λ k. lift_alike emptied h) λ k.
     cond_alike (eqb e.kind 1) (λ k. write_data_alike (value e) h) λ k.

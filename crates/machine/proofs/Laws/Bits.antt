@@ -57,29 +57,29 @@ module _ (a b c d e f g h : Bool) where
       × (weight 1 e ≤ 1) × (weight 1 f ≤ 1) × (weight 1 g ≤ 1) × (weight 1 h ≤ 1)
   units = (weight_le 1 a, weight_le 1 b, weight_le 1 c, weight_le 1 d, weight_le 1 e, weight_le 1 f, weight_le 1 g, weight_le 1 h)
 
-  pub lines-0 : has lines 0 ≡ a
-  lines-0 = has-line lines 0 a (omega (arith, weights, units))
+  pub lines_0 : has lines 0 ≡ a
+  lines_0 = has-line lines 0 a (omega (arith, weights, units))
 
-  pub lines-1 : has lines 1 ≡ b
-  lines-1 = has-line lines 1 b (omega (arith, weights, units))
+  pub lines_1 : has lines 1 ≡ b
+  lines_1 = has-line lines 1 b (omega (arith, weights, units))
 
-  pub lines-2 : has lines 2 ≡ c
-  lines-2 = has-line lines 2 c (omega (arith, weights, units))
+  pub lines_2 : has lines 2 ≡ c
+  lines_2 = has-line lines 2 c (omega (arith, weights, units))
 
-  pub lines-3 : has lines 3 ≡ d
-  lines-3 = has-line lines 3 d (omega (arith, weights, units))
+  pub lines_3 : has lines 3 ≡ d
+  lines_3 = has-line lines 3 d (omega (arith, weights, units))
 
-  pub lines-4 : has lines 4 ≡ e
-  lines-4 = has-line lines 4 e (omega (arith, weights, units))
+  pub lines_4 : has lines 4 ≡ e
+  lines_4 = has-line lines 4 e (omega (arith, weights, units))
 
-  pub lines-5 : has lines 5 ≡ f
-  lines-5 = has-line lines 5 f (omega (arith, weights, units))
+  pub lines_5 : has lines 5 ≡ f
+  lines_5 = has-line lines 5 f (omega (arith, weights, units))
 
-  pub lines-6 : has lines 6 ≡ g
-  lines-6 = has-line lines 6 g (omega (arith, weights, units))
+  pub lines_6 : has lines 6 ≡ g
+  lines_6 = has-line lines 6 g (omega (arith, weights, units))
 
-  pub lines-below : h ≡ false → lines < 128
-  lines-below none = omega (arith, weights, ap (weight 1) none, units)
+  pub lines_below : h ≡ false → lines < 128
+  lines_below none = omega (arith, weights, ap (weight 1) none, units)
 
 -- a number of seven bits, halved until nothing is left
 halved : (x y₁ y₂ y₃ y₄ y₅ y₆ b₀ b₁ b₂ b₃ b₄ b₅ b₆ : ℕ) →
@@ -122,25 +122,25 @@ module _ (a b c d : Bool) where
   ones : (weight 1 a ≤ 1) × (weight 1 b ≤ 1) × (weight 1 c ≤ 1) × (weight 1 d ≤ 1)
   ones = (weight_le 1 a, weight_le 1 b, weight_le 1 c, weight_le 1 d)
 
-  pub nibble-0 : has (nibble a b c d) 0 ≡ a
-  nibble-0 = has-line (nibble a b c d) 0 a (omega (arith, nibble_weights a b c d, ones))
+  pub nibble_0 : has (nibble a b c d) 0 ≡ a
+  nibble_0 = has-line (nibble a b c d) 0 a (omega (arith, nibble_weights a b c d, ones))
 
-  pub nibble-1 : has (nibble a b c d) 1 ≡ b
-  nibble-1 = has-line (nibble a b c d) 1 b (omega (arith, nibble_weights a b c d, ones))
+  pub nibble_1 : has (nibble a b c d) 1 ≡ b
+  nibble_1 = has-line (nibble a b c d) 1 b (omega (arith, nibble_weights a b c d, ones))
 
-  pub nibble-2 : has (nibble a b c d) 2 ≡ c
-  nibble-2 = has-line (nibble a b c d) 2 c (omega (arith, nibble_weights a b c d, ones))
+  pub nibble_2 : has (nibble a b c d) 2 ≡ c
+  nibble_2 = has-line (nibble a b c d) 2 c (omega (arith, nibble_weights a b c d, ones))
 
-  pub nibble-3 : has (nibble a b c d) 3 ≡ d
-  nibble-3 = has-line (nibble a b c d) 3 d (omega (arith, nibble_weights a b c d, ones))
+  pub nibble_3 : has (nibble a b c d) 3 ≡ d
+  nibble_3 = has-line (nibble a b c d) 3 d (omega (arith, nibble_weights a b c d, ones))
 
   -- the lines of a nibble make the nibble
   pub nibble-again : let n = nibble a b c d in nibble (has n 0) (has n 1) (has n 2) (has n 3) ≡ n
-  nibble-again = λ i. nibble (nibble-0 i) (nibble-1 i) (nibble-2 i) (nibble-3 i)
+  nibble-again = λ i. nibble (nibble_0 i) (nibble_1 i) (nibble_2 i) (nibble_3 i)
 
 -- and those of a number below 16 the number
 pub nibble-byte : (x : ℕ) → x < 16 → nibble (has x 0) (has x 1) (has x 2) (has x 3) ≡ x
 nibble-byte x h = omega (arith, flags-byte x (omega arith))
 
 pub high_latches-again : (a b d : Bool) → let n = nibble a b false d in nibble (has n 0) (has n 1) false (has n 3) ≡ n
-high_latches-again a b d = λ i. nibble (nibble-0 a b false d i) (nibble-1 a b false d i) false (nibble-3 a b false d i)
+high_latches-again a b d = λ i. nibble (nibble_0 a b false d i) (nibble_1 a b false d i) false (nibble_3 a b false d i)

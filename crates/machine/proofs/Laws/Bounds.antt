@@ -66,11 +66,11 @@ set_bit_5_below n h = omega arith
 
 -- ---- polled
 module _ (n : ℕ) (p : Public) where
-  pub polled-below : n < 16 → polled n p < 16
-  polled-below h = cond_both (λ x. x < 16) (second_set p) (clear_bit_below n 0 16 h) h
+  pub polled_below : n < 16 → polled n p < 16
+  polled_below h = cond_both (λ x. x < 16) (second_set p) (clear_bit_below n 0 16 h) h
 
-  pub polled-even : second_set p ≡ true → has (polled n p) 0 ≡ false
-  polled-even second = simp second (ap (λ (x : ℕ). eqb x 1) even)
+  pub polled_even : second_set p ≡ true → has (polled n p) 0 ≡ false
+  polled_even second = simp second (ap (λ (x : ℕ). eqb x 1) even)
     where
       even : bit (clear_bit n 0) 0 ≡ 0
       even = omega arith

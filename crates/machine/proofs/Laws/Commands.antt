@@ -65,8 +65,8 @@ understood-known x c =
     none = split x.second_set (λ t. simp (t, bool.and_false)) (λ t. simp (t, bool.and_false))
 
 module _ (x : Settings) (c : ℕ) {hidden : Bool} (is_hidden : hidden ≡ (x.at_mode && ps2_only c)) where
-  pub understood-hidden : hidden ≡ true → 0 ≡ understood x c
-  understood-hidden h = simp (sym is_hidden ∙ h)
+  pub understood_hidden : hidden ≡ true → 0 ≡ understood x c
+  understood_hidden h = simp (sym is_hidden ∙ h)
 
   module _ {other : Bool} (is_other : other ≡ not_in_set x c) (shown : hidden ≡ false) where
     abbrev same : other ≡ left_out x c
@@ -81,21 +81,21 @@ module _ (x : Settings) (c : ℕ) {hidden : Bool} (is_hidden : hidden ≡ (x.at_
 -- in PS/2 mode with the first set only the second set's own are left out
 module _ (x : Settings) (c : ℕ) {ordinary only : Bool} (is_ordinary : ordinary ≡ (not x.at_mode && not x.second_set)) (stands : ordinary ≡ true)
     (is_only : only ≡ second_only c) where
-  only-leftOut : only ≡ left_out x c
-  only-leftOut =
+  only_left_out : only ≡ left_out x c
+  only_left_out =
       let (ps2, first) = and_true (not x.at_mode) (not x.second_set) (sym is_ordinary ∙ stands) in
       is_only ∙ sym (simp (not-true x.at_mode ps2, not-true x.second_set first))
 
-  pub understood-second : only ≡ true → 0 ≡ understood x c
-  understood-second h = ap (λ (t : Bool). cond t 0 c) (sym h ∙ only-leftOut)
+  pub understood_second : only ≡ true → 0 ≡ understood x c
+  understood_second h = ap (λ (t : Bool). cond t 0 c) (sym h ∙ only_left_out)
 
   pub understood-first : only ≡ false → c ≡ understood x c
-  understood-first h = ap (λ (t : Bool). cond t 0 c) (sym h ∙ only-leftOut)
+  understood-first h = ap (λ (t : Bool). cond t 0 c) (sym h ∙ only_left_out)
 
 -- ---- polled
 module _ (n : ℕ) (p : Public) {second : Bool} (is_second : second ≡ second_set p) where
-  pub polled-second : second ≡ true → n - n % 2 ≡ polled n p
-  polled-second h = even ∙ simp (sym is_second ∙ h)
+  pub polled_second : second ≡ true → n - n % 2 ≡ polled n p
+  polled_second h = even ∙ simp (sym is_second ∙ h)
     where
       even : n - n % 2 ≡ clear_bit n 0
       even = omega arith
@@ -114,53 +114,53 @@ load_cut-none m h = simp (ne_eqb _ _ h)
 
 -- ---- plain_command
 module _ (m : Machine) (c : ℕ) where
-  pub command-A7 : c ≡ 0xA7 → lift mouse_disabled m ≡ lift (plain_command c) m
+  pub command_A7 : c ≡ 0xA7 → lift mouse_disabled m ≡ lift (plain_command c) m
   unfolding plain_command
-  command-A7 key = simp key
+  command_A7 key = simp key
 
-  pub command-A8 : c ≡ 0xA8 → lift mouse_enabled m ≡ lift (plain_command c) m
+  pub command_A8 : c ≡ 0xA8 → lift mouse_enabled m ≡ lift (plain_command c) m
   unfolding plain_command
-  command-A8 key = simp key
+  command_A8 key = simp key
 
-  pub command-A9 : c ≡ 0xA9 → lift (put 0) m ≡ lift (plain_command c) m
+  pub command_A9 : c ≡ 0xA9 → lift (put 0) m ≡ lift (plain_command c) m
   unfolding plain_command
-  command-A9 key = simp key
+  command_A9 key = simp key
 
-  pub command-AA : c ≡ 0xAA → lift self_tested m ≡ lift (plain_command c) m
+  pub command_AA : c ≡ 0xAA → lift self_tested m ≡ lift (plain_command c) m
   unfolding plain_command
-  command-AA key = simp key
+  command_AA key = simp key
 
-  pub command-AB : c ≡ 0xAB → lift (put 0) m ≡ lift (plain_command c) m
+  pub command_AB : c ≡ 0xAB → lift (put 0) m ≡ lift (plain_command c) m
   unfolding plain_command
-  command-AB key = simp key
+  command_AB key = simp key
 
-  pub command-AD : c ≡ 0xAD → lift keyboard_disabled m ≡ lift (plain_command c) m
+  pub command_AD : c ≡ 0xAD → lift keyboard_disabled m ≡ lift (plain_command c) m
   unfolding plain_command
-  command-AD key = simp key
+  command_AD key = simp key
 
-  pub command-AE : c ≡ 0xAE → lift keyboard_enabled m ≡ lift (plain_command c) m
+  pub command_AE : c ≡ 0xAE → lift keyboard_enabled m ≡ lift (plain_command c) m
   unfolding plain_command
-  command-AE key = simp key
+  command_AE key = simp key
 
-  pub command-C0 : c ≡ 0xC0 → lift input_port_put m ≡ lift (plain_command c) m
+  pub command_C0 : c ≡ 0xC0 → lift input_port_put m ≡ lift (plain_command c) m
   unfolding plain_command
-  command-C0 key = simp key
+  command_C0 key = simp key
 
-  pub command-C1 : c ≡ 0xC1 → lift low_lines_shown m ≡ lift (plain_command c) m
+  pub command_C1 : c ≡ 0xC1 → lift low_lines_shown m ≡ lift (plain_command c) m
   unfolding plain_command
-  command-C1 key = simp key
+  command_C1 key = simp key
 
-  pub command-C2 : c ≡ 0xC2 → lift high_lines_shown m ≡ lift (plain_command c) m
+  pub command_C2 : c ≡ 0xC2 → lift high_lines_shown m ≡ lift (plain_command c) m
   unfolding plain_command
-  command-C2 key = simp key
+  command_C2 key = simp key
 
-  pub command-D0 : c ≡ 0xD0 → lift output_port_put m ≡ lift (plain_command c) m
+  pub command_D0 : c ≡ 0xD0 → lift output_port_put m ≡ lift (plain_command c) m
   unfolding plain_command
-  command-D0 key = simp key
+  command_D0 key = simp key
 
-  pub command-E0 : c ≡ 0xE0 → lift test_inputs_put m ≡ lift (plain_command c) m
+  pub command_E0 : c ≡ 0xE0 → lift test_inputs_put m ≡ lift (plain_command c) m
   unfolding plain_command
-  command-E0 key = simp key
+  command_E0 key = simp key
 
   pub command-cell : 0x20 ≤ c → c ≤ 0x3F → lift (named_cell_put (c % 32)) m ≡ lift (plain_command c) m
   unfolding plain_command
@@ -217,17 +217,17 @@ module _
 
 -- ---- acts
 module _ (m : Machine) (c : ℕ) where
-  pub acts-A4 : c ≡ 0xA4 → code_asked m ≡ acts c m
+  pub acts_A4 : c ≡ 0xA4 → code_asked m ≡ acts c m
   unfolding acts
-  acts-A4 key = simp key
+  acts_A4 key = simp key
 
-  pub acts-A5 : c ≡ 0xA5 → dropped m ≡ acts c m
+  pub acts_A5 : c ≡ 0xA5 → dropped m ≡ acts c m
   unfolding acts
-  acts-A5 key = simp key
+  acts_A5 key = simp key
 
-  pub acts-A6 : c ≡ 0xA6 → lock_command m ≡ acts c m
+  pub acts_A6 : c ≡ 0xA6 → lock_command m ≡ acts c m
   unfolding acts
-  acts-A6 key = simp key
+  acts_A6 key = simp key
 
   pub acts-other : (c ≡ 0xA4 → ⊥) → (c ≡ 0xA5 → ⊥) → (c ≡ 0xA6 → ⊥) → lift (plain_command c) m ≡ acts c m
   unfolding acts
@@ -252,40 +252,40 @@ load_cut-settings m = cond_both (λ (x : Machine). x.plain.settings ≡ m.plain.
 
 -- ---- test_inputs, pulse_of
 module _ (p : Public) {r : ℕ} {at' off : Bool} (is_at : at' ≡ at_mode p) (is_off : off ≡ keyboard_off p) where
-  pub testInputs-at : at' ≡ true → r ≡ nibble true (not off) false false → r ≡ test_inputs p
+  pub test_inputs-at : at' ≡ true → r ≡ nibble true (not off) false false → r ≡ test_inputs p
   unfolding test_inputs
-  testInputs-at h made = made ∙ simp (sym is_at ∙ h, is_off)
+  test_inputs-at h made = made ∙ simp (sym is_at ∙ h, is_off)
 
-  pub testInputs-ps2 : {mouse : Bool} → at' ≡ false → mouse ≡ mouse_off p → r ≡ nibble (not off) (not mouse) false false → r ≡ test_inputs p
+  pub test_inputs-ps2 : {mouse : Bool} → at' ≡ false → mouse ≡ mouse_off p → r ≡ nibble (not off) (not mouse) false false → r ≡ test_inputs p
   unfolding test_inputs
-  testInputs-ps2 h is_mouse made = made ∙ simp (sym is_at ∙ h, is_off, is_mouse)
+  test_inputs-ps2 h is_mouse made = made ∙ simp (sym is_at ∙ h, is_off, is_mouse)
 
 module _ (x : Settings) (c : ℕ) where
-  pub pulseOf-some : {r : ℕ} {all : Bool} → 0xF0 ≤ c → all ≡ x.at_mode →
+  pub pulse_of_some : {r : ℕ} {all : Bool} → 0xF0 ≤ c → all ≡ x.at_mode →
       r ≡ nibble (not (has c 0)) (not (has c 1)) (all && not (has c 2)) (all && not (has c 3)) →
       r ≡ pulse_of x c
   unfolding pulse_of
-  pulseOf-some h is_all made = made ∙ simp (le-leb 0xF0 c h, is_all)
+  pulse_of_some h is_all made = made ∙ simp (le-leb 0xF0 c h, is_all)
 
-  pub pulseOf-none : c < 0xF0 → 0 ≡ pulse_of x c
+  pub pulse_of-none : c < 0xF0 → 0 ≡ pulse_of x c
   unfolding pulse_of
-  pulseOf-none h = simp (lt-leb 0xF0 c h)
+  pulse_of-none h = simp (lt-leb 0xF0 c h)
 
 -- ---- code_asked, lock_command
 module _ (m : Machine) {has : Bool} (is_has : has ≡ has_code m) where
   module _ {second : Bool} (is_second : second ≡ second_set m.plain) where
-    pub codeAsked-some : (has && not second) ≡ true → lift (put 0xFA) m ≡ code_asked m
+    pub code_asked-some : (has && not second) ≡ true → lift (put 0xFA) m ≡ code_asked m
     unfolding code_asked
-    codeAsked-some h = simp (simp (is_has, is_second) at h)
+    code_asked-some h = simp (simp (is_has, is_second) at h)
 
-    pub codeAsked-none : (has && not second) ≡ false → lift (put 0xF1) m ≡ code_asked m
+    pub code_asked-none : (has && not second) ≡ false → lift (put 0xF1) m ≡ code_asked m
     unfolding code_asked
-    codeAsked-none h = simp (simp (is_has, is_second) at h)
+    code_asked-none h = simp (simp (is_has, is_second) at h)
 
-  pub lockCommand-some : has ≡ true → lift (put_cell 0x13) (lock_set m) ≡ lock_command m
+  pub lock_command_some : has ≡ true → lift (put_cell 0x13) (lock_set m) ≡ lock_command m
   unfolding lock_command
-  lockCommand-some h = simp (sym is_has ∙ h)
+  lock_command_some h = simp (sym is_has ∙ h)
 
-  pub lockCommand-none : has ≡ false → m ≡ lock_command m
+  pub lock_command-none : has ≡ false → m ≡ lock_command m
   unfolding lock_command
-  lockCommand-none h = simp (sym is_has ∙ h)
+  lock_command-none h = simp (sym is_has ∙ h)

@@ -2,7 +2,7 @@
 -- Assumes nothing.
 use Prim.Native.Nat.{ℕ}
 use mathlib.Core.Path.{◌≡◌, refl, ap, sym, ◌∙◌, subst}
-use mathlib.Core.Bool.{Bool, true, false, cond, not, ◌&&◌, ◌||◌, and_false}
+use mathlib.Core.Bool.{Bool, true, false, cond, not, ◌&&◌, ◌||◌, and-false}
 use mathlib.Core.List.{List, [], ◌∷◌}
 use lib.Dec.{eqb, leb}
 use lib.ListN.{length}
@@ -24,8 +24,8 @@ use Rattle.machine.specs.Kept.{Kept}
 use Rattle.machine.specs.Counting.{Counting, counts, starts, passes, byte_counting, frame_counting, lock_counting, counting}
 use Rattle.machine.specs.Counting.{keys_with, counting_completes, keys_after, ByRule}
 use Rattle.machine.proofs.Laws.Cond.{cond-holds, cond_both, not_both}
-use Rattle.machine.proofs.Laws.Lock.{reached-none, reached-begun, reached-next, codeTyped-next}
-use Rattle.machine.proofs.Laws.Events.{accepted-write, accept-keyboard, accept-holds, step-accepted, step-refused}
+use Rattle.machine.proofs.Laws.Lock.{reached-none, reached-begun, reached-next, code_typed-next}
+use Rattle.machine.proofs.Laws.Events.{accepted_write, accept_keyboard, accept-holds, step-accepted, step-refused}
 use Rattle.machine.proofs.Laws.Alike.{put_cell-locked}
 use Rattle.machine.proofs.Laws.KeptParts.{SettingsKept}
 use Rattle.machine.proofs.Laws.Kept.{keeps, fresh_kept}
@@ -42,28 +42,28 @@ record Stays (m n : Machine) : Type 0 where
 
 module _ (m : Machine) (l : m.plain.locked ≡ true) where
   -- ---- events other than frames from the keyboard
-  mousePut-locked : (b : ℕ) (p : Public) → p.locked ≡ true → (mouse_put b p).locked ≡ true
+  mouse_put-locked : (b : ℕ) (p : Public) → p.locked ≡ true → (mouse_put b p).locked ≡ true
   unfolding mouse_put
-  mousePut-locked b p h = rw h
+  mouse_put-locked b p h = rw h
 
-  mouseFrame-locked : (c : Check) → (mouse_frame c m.plain).locked ≡ true
+  mouse_frame-locked : (c : Check) → (mouse_frame c m.plain).locked ≡ true
   unfolding mouse_frame
-  mouseFrame-locked (sound b) = mousePut-locked b _ l
-  mouseFrame-locked parity = mousePut-locked 0xFF _ l
-  mouseFrame-locked broken = mousePut-locked 0xFF _ l
-  mouseFrame-locked noise = l
+  mouse_frame-locked (sound b) = mouse_put-locked b _ l
+  mouse_frame-locked parity = mouse_put-locked 0xFF _ l
+  mouse_frame-locked broken = mouse_put-locked 0xFF _ l
+  mouse_frame-locked noise = l
 
-  timedOut-locked : (timed_out m.plain).locked ≡ true
+  timed_out-locked : (timed_out m.plain).locked ≡ true
   unfolding timed_out
-  timedOut-locked = cond_both (λ (p : Public). p.locked ≡ true) (eqb m.plain.sending.to 2) l l
+  timed_out-locked = cond_both (λ (p : Public). p.locked ≡ true) (eqb m.plain.sending.to 2) l l
 
-  other-stays : (e : Event) → (e.kind ≡ 4 → ⊥) → refusal m.plain e ≡ 0 → Stays m (accept m e)
-  other-stays e other a =
-      let write : is_write e.kind ≡ true → ⊥ = λ w. not_both l (accepted-write m.plain e a w).1 in
+  other_stays : (e : Event) → (e.kind ≡ 4 → ⊥) → refusal m.plain e ≡ 0 → Stays m (accept m e)
+  other_stays e other a =
+      let write : is_write e.kind ≡ true → ⊥ = λ w. not_both l (accepted_write m.plain e a w).1 in
       accept-holds m e (Stays m) (record { locked = l; secret = refl }) (record { locked = l; secret = refl })
       (λ k. absurd (write (simp k))) (λ k. absurd (write (simp k))) (λ k. absurd (other k))
-      (record { locked = mouseFrame-locked (check (value e)); secret = refl }) (record { locked = l; secret = refl })
-      (record { locked = timedOut-locked; secret = refl }) (λ _. record { locked = l; secret = refl })
+      (record { locked = mouse_frame-locked (check (value e)); secret = refl }) (record { locked = l; secret = refl })
+      (record { locked = timed_out-locked; secret = refl }) (λ _. record { locked = l; secret = refl })
 
 -- ---- where the position before is the one that the keys lead to
 module _ (keys : List ℕ) where
@@ -81,7 +81,7 @@ module _ (keys : List ℕ) where
   counts-left x m l f =
       let code = m.secret.code in
       let k = m.secret.position in
-      let unlocks : key_completes code k x ≡ code_typed code (x ∷ keys) = ap (λ (n : ℕ). key_completes code n x) f ∙ sym (codeTyped-next code keys x) in
+      let unlocks : key_completes code k x ≡ code_typed code (x ∷ keys) = ap (λ (n : ℕ). key_completes code n x) f ∙ sym (code_typed-next code keys x) in
       let leads : key_leads code k x ≡ reached code (x ∷ keys) = ap (λ (n : ℕ). key_leads code n x) f ∙ sym (reached-next code keys x) in
       cond-holds (Left code keys (counts x)) (key_completes code k x)
       (λ o. record { locked = put_cell-locked 0x14 _ ∙ ap not (sym (sym unlocks ∙ o)); position = λ t. not_both t (put_cell-locked 0x14 _) })
@@ -134,40 +134,40 @@ module _ (keys : List ℕ) where
         let accepted = eqb-true _ _ a in
         rw (step-accepted m e accepted, a)
         (split (eqb e.kind 4)
-        (λ k. rw (k, accept-keyboard m e (eqb-true _ _ k)) (frame-left (check (value e))))
-        (λ k. rw k (passes-left m f (other-stays m l e (eqb-false _ _ k) accepted)))))
-        (λ r. rw (step-refused m e (eqb-false _ _ r)) (simp (r, and_false) (passes-left m f (record { locked = l; secret = refl })))))
+        (λ k. rw (k, accept_keyboard m e (eqb-true _ _ k)) (frame-left (check (value e))))
+        (λ k. rw k (passes-left m f (other_stays m l e (eqb-false _ _ k) accepted)))))
+        (λ r. rw (step-refused m e (eqb-false _ _ r)) (simp (r, and-false) (passes-left m f (record { locked = l; secret = refl })))))
 
 -- ---- not locked: the position is 0 and stays so, also where the event locks
 abbrev AtZero : Machine → Type 0
 AtZero m = m.secret.position ≡ 0
 
 module _ (m : Machine) (z : AtZero m) where
-  writeData-zero : (v : ℕ) → AtZero (write_data v m)
+  write_data_zero : (v : ℕ) → AtZero (write_data v m)
   unfolding write_data load_byte
-  writeData-zero v =
+  write_data_zero v =
       cond_both AtZero (eqb m.plain.host.pending 3)
       (cond_both AtZero (eqb v 0) z (cond_both AtZero (leb 16 (length m.secret.code)) z z)) z
 
-  loadCut-zero : AtZero (load_cut m)
+  load_cut_zero : AtZero (load_cut m)
   unfolding load_cut
-  loadCut-zero = cond_both AtZero (eqb m.plain.host.pending 3) z z
+  load_cut_zero = cond_both AtZero (eqb m.plain.host.pending 3) z z
 
-  acts-zero : (c : ℕ) → AtZero (acts c m)
+  acts_zero : (c : ℕ) → AtZero (acts c m)
   unfolding acts code_asked lock_command
-  acts-zero c =
+  acts_zero c =
       cond_both AtZero (eqb c 0xA4) (cond_both AtZero (has_code m && not (second_set m.plain)) z z)
       (cond_both AtZero (eqb c 0xA5) z (cond_both AtZero (eqb c 0xA6) (cond_both AtZero (has_code m) refl z) z))
 
-  yieldDelivered-zero : m.plain.locked ≡ false → (y : Yielded) → AtZero (yield_delivered y m)
+  yield_delivered_zero : m.plain.locked ≡ false → (y : Yielded) → AtZero (yield_delivered y m)
   unfolding yield_delivered byte_delivered
-  yieldDelivered-zero u nothing = z
-  yieldDelivered-zero u (byte x) =
+  yield_delivered_zero u nothing = z
+  yield_delivered_zero u (byte x) =
       cond_both AtZero (inhibited m.plain) z (cond-holds AtZero m.plain.locked (λ l. not_both l u) (λ _. z))
 
 frame_zero : (m : Machine) → AtZero m → m.plain.locked ≡ false → (c : Check) → AtZero (keyboard_frame c m)
 unfolding keyboard_frame sound_key
-frame_zero m z u (sound b) = yieldDelivered-zero _ z u (translated b m.plain).yields
+frame_zero m z u (sound b) = yield_delivered_zero _ z u (translated b m.plain).yields
 frame_zero m z u parity = refl
 frame_zero m z u broken = refl
 frame_zero m z u noise = z
@@ -176,7 +176,7 @@ step_zero : (m : Machine) → AtZero m → m.plain.locked ≡ false → (e : Eve
 unfolding step write_command
 step_zero m z u e =
     cond_both AtZero (eqb (refusal m.plain e) 0)
-    (accept-holds m e AtZero z z (λ _. writeData-zero m z (value e)) (λ _. acts-zero _ (loadCut-zero m z) _)
+    (accept-holds m e AtZero z z (λ _. write_data_zero m z (value e)) (λ _. acts_zero _ (load_cut_zero m z) _)
     (λ _. frame_zero m z u (check (value e))) z z z (λ _. z))
     z
 
@@ -186,26 +186,26 @@ record Following (m : Machine) (keys : List ℕ) : Type 0 where
   follows : m.plain.locked ≡ true → Follows keys m
 
 module _ (m : Machine) (keys : List ℕ) (f : Following m keys) where
-  while-free : (e : Event) → m.plain.locked ≡ false → counting m.plain e ≡ starts
+  while_free : (e : Event) → m.plain.locked ≡ false → counting m.plain e ≡ starts
   unfolding counting
-  while-free e free = rw free
+  while_free e free = rw free
 
   follows_next : (e : Event) → (step m e).plain.locked ≡ true → Follows (keys_with (counting m.plain e) keys) (step m e)
   unfolding keys_with
   follows_next e l =
       split m.plain.locked (λ was. (step_left keys m was (f.follows was) e).position l)
-      (λ free. rw (while-free e free) (step_zero m (f.kept.unlocked free) free e ∙ sym (reached-none (step m e).secret.code)))
+      (λ free. rw (while_free e free) (step_zero m (f.kept.unlocked free) free e ∙ sym (reached-none (step m e).secret.code)))
 
-  following-next : (e : Event) → Following (step m e) (keys_with (counting m.plain e) keys)
-  following-next e = record { kept = keeps m e f.kept; follows = follows_next e }
+  following_next : (e : Event) → Following (step m e) (keys_with (counting m.plain e) keys)
+  following_next e = record { kept = keeps m e f.kept; follows = follows_next e }
 
-  by-following : ByRule m keys
-  by-following = record { position = f.follows; unlocks = λ e l. (step_left keys m l (f.follows l) e).locked }
+  by_following : ByRule m keys
+  by_following = record { position = f.follows; unlocks = λ e l. (step_left keys m l (f.follows l) e).locked }
 
 by_rule_after : (m : Machine) (keys : List ℕ) → Following m keys → (es : List Event) → ByRule (after m es) (keys_after m es keys)
 unfolding after keys_after
-by_rule_after m keys f [] = by-following m keys f
-by_rule_after m keys f (e ∷ es) = by_rule_after (step m e) _ (following-next m keys f e) es
+by_rule_after m keys f [] = by_following m keys f
+by_rule_after m keys f (e ∷ es) = by_rule_after (step m e) _ (following_next m keys f e) es
 
 -- From any machine that keeps the body rules, with the keys that its position stands for.
 pub lock_by_rule : (m : Machine) → Kept m → (es : List Event) → ByRule (after m es) (keys_after m es (begun m.secret.code m.secret.position))

@@ -9,35 +9,35 @@ use Rattle.machine.specs.DataPort.{load_byte, write_data}
 
 -- ---- plain_data, by the pending code
 module _ (m : Machine) (v : ℕ) where
-  pub data-1 : m.plain.host.pending ≡ 1 → lift (with_mode (v % 0x80)) m ≡ lift (plain_data v) m
+  pub data_1 : m.plain.host.pending ≡ 1 → lift (with_mode (v % 0x80)) m ≡ lift (plain_data v) m
   unfolding plain_data
-  data-1 key = simp key
+  data_1 key = simp key
 
-  pub data-2 : m.plain.host.pending ≡ 2 → lift (cell_written v) m ≡ lift (plain_data v) m
+  pub data_2 : m.plain.host.pending ≡ 2 → lift (cell_written v) m ≡ lift (plain_data v) m
   unfolding plain_data
-  data-2 key = simp key
+  data_2 key = simp key
 
-  pub data-4 : m.plain.host.pending ≡ 4 → lift (latched v) m ≡ lift (plain_data v) m
+  pub data_4 : m.plain.host.pending ≡ 4 → lift (latched v) m ≡ lift (plain_data v) m
   unfolding plain_data
-  data-4 key = simp key
+  data_4 key = simp key
 
-  pub data-5 : m.plain.host.pending ≡ 5 → lift (put v) m ≡ lift (plain_data v) m
+  pub data_5 : m.plain.host.pending ≡ 5 → lift (put v) m ≡ lift (plain_data v) m
   unfolding plain_data
-  data-5 key = simp key
+  data_5 key = simp key
 
-  pub data-6 : m.plain.host.pending ≡ 6 → lift (put_mouse v) m ≡ lift (plain_data v) m
+  pub data_6 : m.plain.host.pending ≡ 6 → lift (put_mouse v) m ≡ lift (plain_data v) m
   unfolding plain_data
-  data-6 key = simp key
+  data_6 key = simp key
 
-  pub data-7 : m.plain.host.pending ≡ 7 → lift (send 2 v) m ≡ lift (plain_data v) m
+  pub data_7 : m.plain.host.pending ≡ 7 → lift (send 2 v) m ≡ lift (plain_data v) m
   unfolding plain_data
-  data-7 key = simp key
+  data_7 key = simp key
 
-  pub data-other : (m.plain.host.pending ≡ 1 → ⊥) → (m.plain.host.pending ≡ 2 → ⊥) → (m.plain.host.pending ≡ 4 → ⊥) →
+  pub data_other : (m.plain.host.pending ≡ 1 → ⊥) → (m.plain.host.pending ≡ 2 → ⊥) → (m.plain.host.pending ≡ 4 → ⊥) →
       (m.plain.host.pending ≡ 5 → ⊥) → (m.plain.host.pending ≡ 6 → ⊥) → (m.plain.host.pending ≡ 7 → ⊥) →
       lift (send_keyboard v) m ≡ lift (plain_data v) m
   unfolding plain_data
-  data-other n1 n2 n4 n5 n6 n7 =
+  data_other n1 n2 n4 n5 n6 n7 =
       simp (ne_eqb _ _ n1, ne_eqb _ _ n2, ne_eqb _ _ n4, ne_eqb _ _ n5, ne_eqb _ _ n6, ne_eqb _ _ n7)
 
 -- ---- load_byte

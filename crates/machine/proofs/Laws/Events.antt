@@ -57,8 +57,8 @@ module _ (p : Public) (e : Event) (a : refusal p e ≡ 0) where
   pub value-byte : (is_write e.kind || eqb e.kind 8) ≡ true → value e ≡ e.low
   value-byte w = omega (arith, accepted-byte w)
 
-  pub accepted-write : is_write e.kind ≡ true → (p.sending.to ≡ 0) × (p.locked ≡ false)
-  accepted-write w =
+  pub accepted_write : is_write e.kind ≡ true → (p.sending.to ≡ 0) × (p.locked ≡ false)
+  accepted_write w =
       (input_full_false p (and_false _ _ (accepted p e a).busy w), and_false _ _ (accepted p e a).shut w)
 
   pub accepted-frame : is_frame e.kind ≡ true → (device_off p e.kind ≡ false) × (p.output.full ≡ false) × (p.sending.to ≡ 0)
@@ -67,8 +67,8 @@ module _ (p : Public) (e : Event) (a : refusal p e ≡ 0) where
       let (empty, free) = or_false _ _ rest in
       (on, empty, input_full_false p free)
 
-  pub accepted-end : ends_sending e.kind ≡ true → p.sending.to ≡ 0 → ⊥
-  accepted-end s = eqb-false _ _ (not-true _ (not-false _ (and_false _ _ (accepted p e a).idle s)))
+  pub accepted_end : ends_sending e.kind ≡ true → p.sending.to ≡ 0 → ⊥
+  accepted_end s = eqb-false _ _ (not-true _ (not-false _ (and_false _ _ (accepted p e a).idle s)))
 
 -- a kind above 8
 pub refusal-kind : (p : Public) (e : Event) → 8 < e.kind → refusal p e ≡ 1
@@ -115,39 +115,39 @@ module _ (p : Public) (low high : ℕ) where
   unfolding state_refusal
   reads_fit h = (refusal_fits p _ refl h refl, refusal_fits p _ refl h refl)
 
-  pub writes-high : 255 < word low high → Either p low high 1 3 2
-  writes-high h = (refusal-high p _ refl h, refusal-high p _ refl h)
+  pub writes_high : 255 < word low high → Either p low high 1 3 2
+  writes_high h = (refusal-high p _ refl h, refusal-high p _ refl h)
 
-  pub writes-fit : {n : ℕ} → word low high ≤ 255 → EitherState p 1 3 n → Either p low high 1 3 n
-  writes-fit h (one, three) = (refusal_fits p _ refl h one, refusal_fits p _ refl h three)
+  pub writes_fit : {n : ℕ} → word low high ≤ 255 → EitherState p 1 3 n → Either p low high 1 3 n
+  writes_fit h (one, three) = (refusal_fits p _ refl h one, refusal_fits p _ refl h three)
 
   pub ends-high : 0 < word low high → Either p low high 6 7 2
   ends-high h = (refusal-high p _ refl h, refusal-high p _ refl h)
 
-  pub ends-fit : {n : ℕ} → word low high ≤ 0 → EitherState p 6 7 n → Either p low high 6 7 n
-  ends-fit h (six, seven) = (refusal_fits p _ refl h six, refusal_fits p _ refl h seven)
+  pub ends_fit : {n : ℕ} → word low high ≤ 0 → EitherState p 6 7 n → Either p low high 6 7 n
+  ends_fit h (six, seven) = (refusal_fits p _ refl h six, refusal_fits p _ refl h seven)
 
 -- ---- state_refusal, where a byte is being sent or not
 module _ (p : Public) {busy : Bool} (is_busy : busy ≡ input_full p) where
-  pub writes-busy : busy ≡ true → EitherState p 1 3 3
+  pub writes_busy : busy ≡ true → EitherState p 1 3 3
   unfolding state_refusal
-  writes-busy b = (simp (sym is_busy ∙ b), simp (sym is_busy ∙ b))
+  writes_busy b = (simp (sym is_busy ∙ b), simp (sym is_busy ∙ b))
 
-  pub writes-locked : {locked : Bool} → busy ≡ false → locked ≡ p.locked → locked ≡ true → EitherState p 1 3 4
+  pub writes_locked : {locked : Bool} → busy ≡ false → locked ≡ p.locked → locked ≡ true → EitherState p 1 3 4
   unfolding state_refusal
-  writes-locked b is_locked l = (simp (sym is_busy ∙ b, sym is_locked ∙ l), simp (sym is_busy ∙ b, sym is_locked ∙ l))
+  writes_locked b is_locked l = (simp (sym is_busy ∙ b, sym is_locked ∙ l), simp (sym is_busy ∙ b, sym is_locked ∙ l))
 
-  pub writes-free : {locked : Bool} → busy ≡ false → locked ≡ p.locked → locked ≡ false → EitherState p 1 3 0
+  pub writes_free : {locked : Bool} → busy ≡ false → locked ≡ p.locked → locked ≡ false → EitherState p 1 3 0
   unfolding state_refusal
-  writes-free b is_locked l = (simp (sym is_busy ∙ b, sym is_locked ∙ l), simp (sym is_busy ∙ b, sym is_locked ∙ l))
+  writes_free b is_locked l = (simp (sym is_busy ∙ b, sym is_locked ∙ l), simp (sym is_busy ∙ b, sym is_locked ∙ l))
 
   pub ends-idle : busy ≡ false → EitherState p 6 7 6
   unfolding state_refusal
   ends-idle b = (simp (sym is_busy ∙ b), simp (sym is_busy ∙ b))
 
-  pub ends-free : busy ≡ true → EitherState p 6 7 0
+  pub ends_free : busy ≡ true → EitherState p 6 7 0
   unfolding state_refusal
-  ends-free b = (simp (sym is_busy ∙ b), simp (sym is_busy ∙ b))
+  ends_free b = (simp (sym is_busy ∙ b), simp (sym is_busy ∙ b))
 
 -- ---- step
 
@@ -171,13 +171,13 @@ reply-accepted p e q a = simp a
 
 -- ---- accept, by the kind
 module _ (m : Machine) (e : Event) where
-  pub accept-read : e.kind ≡ 0 → accept m e ≡ lift emptied m
+  pub accept_read : e.kind ≡ 0 → accept m e ≡ lift emptied m
   unfolding accept
-  accept-read k = simp k
+  accept_read k = simp k
 
-  pub accept-data : e.kind ≡ 1 → accept m e ≡ write_data (value e) m
+  pub accept_data : e.kind ≡ 1 → accept m e ≡ write_data (value e) m
   unfolding accept
-  accept-data k = simp k
+  accept_data k = simp k
 
   pub accept-status : e.kind ≡ 2 → accept m e ≡ m
   unfolding accept
@@ -187,9 +187,9 @@ module _ (m : Machine) (e : Event) where
   unfolding accept
   accept-command k = simp k
 
-  pub accept-keyboard : e.kind ≡ 4 → accept m e ≡ keyboard_frame (check (value e)) m
+  pub accept_keyboard : e.kind ≡ 4 → accept m e ≡ keyboard_frame (check (value e)) m
   unfolding accept
-  accept-keyboard k = simp k
+  accept_keyboard k = simp k
 
   pub accept-mouse : e.kind ≡ 5 → accept m e ≡ lift (mouse_frame (check (value e))) m
   unfolding accept

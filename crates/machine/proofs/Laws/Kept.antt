@@ -17,11 +17,11 @@ use Rattle.machine.specs.Events.{Event, value, refusal, emptied, accept, step}
 use Rattle.machine.specs.Kept.{Kept}
 use Rattle.machine.proofs.Laws.Cond.{cond-holds, not_both}
 use Rattle.machine.proofs.Laws.Bounds.{get_or_zeros}
-use Rattle.machine.proofs.Laws.Events.{accepted-byte, accepted-write, accept-holds}
-use Rattle.machine.proofs.Laws.KeptParts.{RamKept, SettingsKept, grouped_kept, withOutput-kept}
+use Rattle.machine.proofs.Laws.Events.{accepted-byte, accepted_write, accept-holds}
+use Rattle.machine.proofs.Laws.KeptParts.{RamKept, SettingsKept, grouped_kept, with_output-kept}
 use Rattle.machine.proofs.Laws.KeptDataPort.{write_data-kept}
 use Rattle.machine.proofs.Laws.KeptCommands.{write_command-kept}
-use Rattle.machine.proofs.Laws.KeptDevices.{keyboard_frame-kept, mouse_frame-kept, taken-kept, timedOut-kept, pinned-kept}
+use Rattle.machine.proofs.Laws.KeptDevices.{keyboard_frame-kept, mouse_frame-kept, taken-kept, timed_out-kept, pinned-kept}
 
 -- ---- fresh
 module _ (x : Settings) where
@@ -47,26 +47,26 @@ module _ (x : Settings) where
 
 -- ---- emptied, accept, step
 pub emptied-kept : {m : Machine} → Kept m → Kept (lift emptied m)
-emptied-kept k = withOutput-kept k _ (k.output, λ e. not_both e refl)
+emptied-kept k = with_output-kept k _ (k.output, λ e. not_both e refl)
 
 module _ {m : Machine} (k : Kept m) (e : Event) (a : refusal m.plain e ≡ 0) where
-  dataEvent-kept : e.kind ≡ 1 → Kept (write_data (value e) m)
-  dataEvent-kept h =
-      write_data-kept k (accepted-write _ e a (simp h)).1 (value e) (omega (arith, accepted-byte _ e a (simp h)))
+  data_event_kept : e.kind ≡ 1 → Kept (write_data (value e) m)
+  data_event_kept h =
+      write_data-kept k (accepted_write _ e a (simp h)).1 (value e) (omega (arith, accepted-byte _ e a (simp h)))
 
-  commandEvent-kept : e.kind ≡ 3 → Kept (write_command (value e) m)
-  commandEvent-kept h =
-      let (nobody, unlocked) = accepted-write _ e a (simp h) in
+  command_event_kept : e.kind ≡ 3 → Kept (write_command (value e) m)
+  command_event_kept h =
+      let (nobody, unlocked) = accepted_write _ e a (simp h) in
       write_command-kept k unlocked nobody (value e)
 
-  pinsEvent-kept : e.kind ≡ 8 → Kept (lift (pinned (value e)) m)
-  pinsEvent-kept h = pinned-kept k (value e) (omega (arith, accepted-byte _ e a (simp h)))
+  pins_event_kept : e.kind ≡ 8 → Kept (lift (pinned (value e)) m)
+  pins_event_kept h = pinned-kept k (value e) (omega (arith, accepted-byte _ e a (simp h)))
 
   pub accept-kept : Kept (accept m e)
   accept-kept =
       let sound-below : (b : ℕ) → check (value e) ≡ sound b → b < 256 = λ b s. (check_sound _ b s).0 in
-      accept-holds m e Kept k (emptied-kept k) dataEvent-kept commandEvent-kept (λ _. keyboard_frame-kept k _ sound-below)
-      (mouse_frame-kept k _ sound-below) (taken-kept k) (timedOut-kept k) pinsEvent-kept
+      accept-holds m e Kept k (emptied-kept k) data_event_kept command_event_kept (λ _. keyboard_frame-kept k _ sound-below)
+      (mouse_frame-kept k _ sound-below) (taken-kept k) (timed_out-kept k) pins_event_kept
 
 pub keeps : (m : Machine) (e : Event) → Kept m → Kept (step m e)
 unfolding step

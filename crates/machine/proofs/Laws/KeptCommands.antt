@@ -17,13 +17,13 @@ use Rattle.machine.specs.Commands.{has_code, code_asked, lock_set, lock_command,
 use Rattle.machine.specs.Kept.{Kept}
 use Rattle.machine.proofs.Laws.Cond.{cond-holds, cond_both, not_both}
 use Rattle.machine.proofs.Laws.Commands.{Known, understood-known}
-use Rattle.machine.proofs.Laws.Bounds.{input_port_below, polled-below, polled-even}
+use Rattle.machine.proofs.Laws.Bounds.{input_port_below, polled_below, polled_even}
 use Rattle.machine.proofs.Laws.Bounds.{output_port_below, test_inputs_below, clear_bit_below, set_bit_2_below}
-use Rattle.machine.proofs.Laws.KeptParts.{withHost-kept, withLock-kept}
-use Rattle.machine.proofs.Laws.KeptLines.{KeptWith, put-kept, putCell-kept, withMode-kept}
-use Rattle.machine.proofs.Laws.KeptLines.{keyboardDisabled-kept, keyboardEnabled-kept, mouseDisabled-kept, mouseEnabled-kept}
+use Rattle.machine.proofs.Laws.KeptParts.{with_host-kept, with_lock_kept}
+use Rattle.machine.proofs.Laws.KeptLines.{KeptWith, put-kept, put_cell-kept, with_mode-kept}
+use Rattle.machine.proofs.Laws.KeptLines.{keyboard_disabled-kept, keyboard_enabled-kept, mouse_disabled-kept, mouse_enabled-kept}
 use Rattle.machine.proofs.Laws.KeptDataPort.{dropped-kept}
-use Rattle.machine.proofs.Laws.KeptSecondSet.{secondCommand-kept}
+use Rattle.machine.proofs.Laws.KeptSecondSet.{second_command-kept}
 
 -- ---- within, pending_of, cell_named
 within_true : (low high c : ℕ) → within low high c ≡ true → (low ≤ c) × (c ≤ high)
@@ -77,55 +77,55 @@ module _ {m : Machine} (k : Kept m) where
   -- ---- overlaid, self_tested, plain_command
   pub overlaid-kept : (n : ℕ) → n < 16 → Kept (lift (overlaid (polled n m.plain)) m)
   overlaid-kept n low =
-      withHost-kept k _
-      (k.pending, k.cell, k.no_cell, polled-below n m.plain low, λ o. not_both refl o, polled-even n m.plain)
+      with_host-kept k _
+      (k.pending, k.cell, k.no_cell, polled_below n m.plain low, λ o. not_both refl o, polled_even n m.plain)
       (λ l. (k.locked l).1)
 
-  pub selfTested-kept : Kept (lift self_tested m)
-  selfTested-kept =
+  pub self_tested-kept : Kept (lift self_tested m)
+  self_tested-kept =
       let on : clear_bit (clear_bit (mode m.plain) 4) 5 < 128 = clear_bit_below _ 5 128 (clear_bit_below _ 4 128 k.mode_byte) in
-      put-kept (withMode-kept k _ (set_bit_2_below _ on)) 0x55 (omega arith)
+      put-kept (with_mode-kept k _ (set_bit_2_below _ on)) 0x55 (omega arith)
 
-  pub plainCommand-kept : (c : ℕ) → (second_set m.plain ≡ false → second_only c ≡ false) → Kept (lift (plain_command c) m)
+  pub plain_command-kept : (c : ℕ) → (second_set m.plain ≡ false → second_only c ≡ false) → Kept (lift (plain_command c) m)
   unfolding plain_command
-  plainCommand-kept c known =
+  plain_command-kept c known =
       let P = KeptWith m.secret in
       let p = m.plain in
       let port = input_port_below p k.pins in
       cond_both P (within 0x20 0x3F c) (put-kept k _ (k.cells _))
-      (cond_both P (eqb c 0xA7) (mouseDisabled-kept k)
-      (cond_both P (eqb c 0xA8) (mouseEnabled-kept k)
+      (cond_both P (eqb c 0xA7) (mouse_disabled-kept k)
+      (cond_both P (eqb c 0xA8) (mouse_enabled-kept k)
       (cond_both P (eqb c 0xA9) (put-kept k 0 (omega arith))
-      (cond_both P (eqb c 0xAA) selfTested-kept
+      (cond_both P (eqb c 0xAA) self_tested-kept
       (cond_both P (eqb c 0xAB) (put-kept k 0 (omega arith))
-      (cond_both P (eqb c 0xAD) (keyboardDisabled-kept k)
-      (cond_both P (eqb c 0xAE) (keyboardEnabled-kept k)
+      (cond_both P (eqb c 0xAD) (keyboard_disabled-kept k)
+      (cond_both P (eqb c 0xAE) (keyboard_enabled-kept k)
       (cond_both P (eqb c 0xC0) (put-kept k _ port)
       (cond_both P (eqb c 0xC1) (overlaid-kept (input_port p % 16) (omega arith))
       (cond_both P (eqb c 0xC2) (overlaid-kept (input_port p / 16) (omega (arith, port)))
       (cond_both P (eqb c 0xD0) (put-kept k _ (output_port_below p))
-      (cond_both P (eqb c 0xE0) (put-kept k _ (test_inputs_below p)) (secondCommand-kept k c known)))))))))))))
+      (cond_both P (eqb c 0xE0) (put-kept k _ (test_inputs_below p)) (second_command-kept k c known)))))))))))))
 
   -- ---- code_asked, lock_set, lock_command
-  pub codeAsked-kept : Kept (code_asked m)
+  pub code_asked-kept : Kept (code_asked m)
   unfolding code_asked
-  codeAsked-kept = cond_both Kept (has_code m && not (second_set m.plain)) (put-kept k 0xFA (omega arith)) (put-kept k 0xF1 (omega arith))
+  code_asked-kept = cond_both Kept (has_code m && not (second_set m.plain)) (put-kept k 0xFA (omega arith)) (put-kept k 0xF1 (omega arith))
 
   module _ (settled : m.plain.host.pending ≡ 0) (nobody : m.plain.sending.to ≡ 0) where
-    pub lockSet-kept : has_code m ≡ true → Kept (lock_set m)
-    lockSet-kept some =
+    pub lock_set-kept : has_code m ≡ true → Kept (lock_set m)
+    lock_set-kept some =
         let other : length m.secret.code ≡ 0 → ⊥ = eqb-false _ _ (not-true _ some) in
-        withLock-kept k true 0 (λ _. (omega arith, settled, nobody), λ _. refl)
+        with_lock_kept k true 0 (λ _. (omega arith, settled, nobody), λ _. refl)
 
-    pub lockCommand-kept : Kept (lock_command m)
+    pub lock_command-kept : Kept (lock_command m)
     unfolding lock_command
-    lockCommand-kept = cond-holds Kept (has_code m) (λ some. putCell-kept (lockSet-kept some) 0x13) λ _. k
+    lock_command-kept = cond-holds Kept (has_code m) (λ some. put_cell-kept (lock_set-kept some) 0x13) λ _. k
 
 -- ---- command_written, acts, write_command
 module _ {m : Machine} (k : Kept m) (unlocked : m.plain.locked ≡ false) (c : ℕ) (known : Known m.plain.settings c) where
-  pub commandWritten-kept : Kept (lift (command_written c) m)
-  commandWritten-kept =
-      withHost-kept k _ (
+  pub command_written-kept : Kept (lift (command_written c) m)
+  command_written-kept =
+      with_host-kept k _ (
         pending_of_le c,
         cell_named_some c,
         cell_named-none c,
@@ -138,16 +138,16 @@ module _ {m : Machine} (k : Kept m) (unlocked : m.plain.locked ≡ false) (c : �
   pub acts-kept : (c ≡ 0xA6 → m.plain.host.pending ≡ 0) → m.plain.sending.to ≡ 0 → Kept (acts c m)
   unfolding acts
   acts-kept settled nobody =
-      cond_both Kept (eqb c 0xA4) (codeAsked-kept k)
+      cond_both Kept (eqb c 0xA4) (code_asked-kept k)
       (cond_both Kept (eqb c 0xA5) (dropped-kept k unlocked)
-      (cond-holds Kept (eqb c 0xA6) (λ e. lockCommand-kept k (settled (eqb-true _ _ e)) nobody) λ _. plainCommand-kept k c known.second))
+      (cond-holds Kept (eqb c 0xA6) (λ e. lock_command-kept k (settled (eqb-true _ _ e)) nobody) λ _. plain_command-kept k c known.second))
 
 -- after the command has been written its own pending code stands, which is none for A6h
 acts_written_kept : {m : Machine} → Kept m → m.plain.locked ≡ false → m.plain.sending.to ≡ 0 → (c : ℕ) → Known m.plain.settings c →
     Kept (acts c (lift (command_written c) m))
 unfolding pending_of
 acts_written_kept k unlocked nobody c known =
-    acts-kept (commandWritten-kept k unlocked c known) unlocked c known (λ e. ap pending_of e) nobody
+    acts-kept (command_written-kept k unlocked c known) unlocked c known (λ e. ap pending_of e) nobody
 
 pub write_command-kept : {m : Machine} → Kept m → m.plain.locked ≡ false → m.plain.sending.to ≡ 0 → (c : ℕ) → Kept (write_command c m)
 unfolding write_command load_cut

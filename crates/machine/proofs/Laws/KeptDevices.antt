@@ -19,27 +19,27 @@ use Rattle.machine.specs.Lock.{shorter, reached, key_completes}
 use Rattle.machine.specs.Kept.{Kept}
 use Rattle.machine.proofs.Laws.Lock.{longest-below}
 use Rattle.machine.proofs.Laws.Cond.{cond-holds, cond_both, not_both}
-use Rattle.machine.proofs.Laws.KeptParts.{withErrors-kept, withBreaks-kept, withPorts-kept, withSending-kept, withLock-kept}
-use Rattle.machine.proofs.Laws.KeptLines.{KeptWith, put-kept, putMouse-kept, putCell-kept}
+use Rattle.machine.proofs.Laws.KeptParts.{with_errors-kept, with_breaks-kept, with_ports-kept, with_sending-kept, with_lock_kept}
+use Rattle.machine.proofs.Laws.KeptLines.{KeptWith, put-kept, put_mouse-kept, put_cell-kept}
 
 -- ---- positioned, lock_cleared, unlocked, try
 module _ {m : Machine} (k : Kept m) where
-  pub positioned-zero-kept : Kept (positioned 0 m)
-  positioned-zero-kept =
-      withLock-kept k m.plain.locked 0 (λ l. (omega (arith, k.locked l), (k.locked l).1, (k.locked l).2), λ _. refl)
+  pub positioned_zero_kept : Kept (positioned 0 m)
+  positioned_zero_kept =
+      with_lock_kept k m.plain.locked 0 (λ l. (omega (arith, k.locked l), (k.locked l).1, (k.locked l).2), λ _. refl)
 
-  pub lockCleared-kept : Kept (lock_cleared m)
-  lockCleared-kept = withLock-kept k false 0 (λ l. not_both l refl, λ _. refl)
+  pub lock_cleared-kept : Kept (lock_cleared m)
+  lock_cleared-kept = with_lock_kept k false 0 (λ l. not_both l refl, λ _. refl)
 
   pub unlocked-kept : Kept (unlocked m)
-  unlocked-kept = putCell-kept lockCleared-kept 0x14
+  unlocked-kept = put_cell-kept lock_cleared-kept 0x14
 
   module _ (l : m.plain.locked ≡ true) where
     pub positioned-reached-kept : (keys : List ℕ) → Kept (positioned (reached m.secret.code keys) m)
     positioned-reached-kept keys =
         let inside = k.locked l in
         let below = longest-below m.secret.code keys (shorter m.secret.code) in
-        withLock-kept k m.plain.locked _ (λ _. (omega (arith, below, inside.0), inside.1, inside.2), λ u. not_both l u)
+        with_lock_kept k m.plain.locked _ (λ _. (omega (arith, below, inside.0), inside.1, inside.2), λ u. not_both l u)
 
     pub try-kept : (x : ℕ) → Kept (try x m)
     unfolding try key_matched
@@ -48,7 +48,7 @@ module _ {m : Machine} (k : Kept m) where
 
 -- ---- errors_set
 pub errors_set-kept : {m : Machine} → Kept m → (t e : Bool) → Kept (lift (errors_set t e) m)
-errors_set-kept k t e = withErrors-kept k _ (λ _. refl)
+errors_set-kept k t e = with_errors-kept k _ (λ _. refl)
 
 -- ---- key_error, damaged_key
 pub key_error-kept : {m : Machine} → Kept m → Kept (lift key_error m)
@@ -57,7 +57,7 @@ key_error-kept {m} k =
     cond_both (KeptWith m.secret) (m.plain.locked || inhibited m.plain) k (put-kept k 0xFF (omega arith))
 
 pub damaged_key-kept : {m : Machine} → Kept m → (t e : Bool) → Kept (damaged_key t e m)
-damaged_key-kept k t e = positioned-zero-kept (key_error-kept (withBreaks-kept (errors_set-kept k t e) false))
+damaged_key-kept k t e = positioned_zero_kept (key_error-kept (with_breaks-kept (errors_set-kept k t e) false))
 
 -- ---- translated, yield_delivered, byte_delivered, sound_key
 pub translated_below : (b : ℕ) (p : Public) → ((k : ℕ) → get_or p.settings.table k 0 < 256) → b < 256 → (x : ℕ) → (translated b p).yields ≡ byte x → x < 256
@@ -76,7 +76,7 @@ yield_delivered-kept {m} k (byte x) small =
 pub sound_key-kept : {m : Machine} → Kept m → (b : ℕ) → b < 256 → Kept (sound_key b m)
 unfolding sound_key
 sound_key-kept {m} k b small =
-    yield_delivered-kept (withBreaks-kept (errors_set-kept k false false) _) _ (translated_below b m.plain k.entries small)
+    yield_delivered-kept (with_breaks-kept (errors_set-kept k false false) _) _ (translated_below b m.plain k.entries small)
 
 -- ---- keyboard_frame
 pub keyboard_frame-kept : {m : Machine} → Kept m → (c : Check) → ((b : ℕ) → c ≡ sound b → b < 256) → Kept (keyboard_frame c m)
@@ -90,7 +90,7 @@ keyboard_frame-kept k noise small = k
 pub mouse_put-kept : {m : Machine} → Kept m → (b : ℕ) → b < 256 → Kept (lift (mouse_put b) m)
 unfolding mouse_put
 mouse_put-kept {m} k b small =
-    cond_both (KeptWith m.secret) (m.plain.locked || mouse_inhibited m.plain) k (putMouse-kept k b small)
+    cond_both (KeptWith m.secret) (m.plain.locked || mouse_inhibited m.plain) k (put_mouse-kept k b small)
 
 pub mouse_frame-kept : {m : Machine} → Kept m → (c : Check) → ((b : ℕ) → c ≡ sound b → b < 256) → Kept (lift (mouse_frame c) m)
 unfolding mouse_frame
@@ -102,18 +102,18 @@ mouse_frame-kept k noise small = k
 module _ {m : Machine} (k : Kept m) where
   -- ---- idle, taken, timed_out
   pub idle-kept : Kept (lift idle m)
-  idle-kept = withSending-kept k _ (omega arith, omega arith, λ _. refl) (λ _. refl)
+  idle-kept = with_sending-kept k _ (omega arith, omega arith, λ _. refl) (λ _. refl)
 
   pub taken-kept : Kept (lift taken m)
   taken-kept = errors_set-kept idle-kept false false
 
-  pub timedOut-kept : Kept (lift timed_out m)
+  pub timed_out-kept : Kept (lift timed_out m)
   unfolding timed_out
-  timedOut-kept =
-      let k' : Kept (lift not_taken (lift idle m)) = withErrors-kept idle-kept _ (λ ps2. ps2) in
-      cond_both (KeptWith m.secret) (eqb m.plain.sending.to 2) (putMouse-kept k' 0xFE (omega arith))
+  timed_out-kept =
+      let k' : Kept (lift not_taken (lift idle m)) = with_errors-kept idle-kept _ (λ ps2. ps2) in
+      cond_both (KeptWith m.secret) (eqb m.plain.sending.to 2) (put_mouse-kept k' 0xFE (omega arith))
       (put-kept k' 0xFE (omega arith))
 
   -- ---- pinned
   pub pinned-kept : (v : ℕ) → v < 256 → Kept (lift (pinned v) m)
-  pinned-kept v small = withPorts-kept k _ (small, k.latches, k.p25, k.first_set, k.input_latches)
+  pinned-kept v small = with_ports-kept k _ (small, k.latches, k.p25, k.first_set, k.input_latches)

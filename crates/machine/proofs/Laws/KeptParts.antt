@@ -126,8 +126,8 @@ module _ {m : Machine} (k : Kept m) where
   pub kept-settings : SettingsKept m.plain.settings
   kept-settings = (k.version, k.table, k.entries)
 
-  pub kept-lock : LockKept m
-  kept-lock = (k.locked, k.unlocked)
+  pub kept_lock : LockKept m
+  kept_lock = (k.locked, k.unlocked)
 
 -- ---- one part replaced
 -- the lock and the position
@@ -135,44 +135,44 @@ abbrev pub with_lock : Bool → ℕ → Machine → Machine
 with_lock b i m = record { plain = with_locked m.plain b; secret = record { code = m.secret.code; position = i } }
 
 module _ {m : Machine} (k : Kept m) where
-  pub withOutput-kept : (o : Output) → OutputKept o → Kept (lift (λ p. with_output p o) m)
-  withOutput-kept o new =
-      grouped_kept _ new (kept-errors k) (kept-host k) (kept-ports k) (kept-sending k) (kept-ram k) (kept-code k) (kept-lock k) (kept-settings k)
+  pub with_output-kept : (o : Output) → OutputKept o → Kept (lift (λ p. with_output p o) m)
+  with_output-kept o new =
+      grouped_kept _ new (kept-errors k) (kept-host k) (kept-ports k) (kept-sending k) (kept-ram k) (kept-code k) (kept_lock k) (kept-settings k)
 
-  pub withErrors-kept : (x : Errors) → ErrorsKept m.plain.settings x → Kept (lift (λ p. with_errors p x) m)
-  withErrors-kept x new =
-      grouped_kept _ (kept-output k) new (kept-host k) (kept-ports k) (kept-sending k) (kept-ram k) (kept-code k) (kept-lock k) (kept-settings k)
+  pub with_errors-kept : (x : Errors) → ErrorsKept m.plain.settings x → Kept (lift (λ p. with_errors p x) m)
+  with_errors-kept x new =
+      grouped_kept _ (kept-output k) new (kept-host k) (kept-ports k) (kept-sending k) (kept-ram k) (kept-code k) (kept_lock k) (kept-settings k)
 
-  pub withBreaks-kept : (b : Bool) → Kept (lift (λ p. with_breaks p b) m)
-  withBreaks-kept b =
-      grouped_kept _ (kept-output k) (kept-errors k) (kept-host k) (kept-ports k) (kept-sending k) (kept-ram k) (kept-code k) (kept-lock k) (kept-settings k)
+  pub with_breaks-kept : (b : Bool) → Kept (lift (λ p. with_breaks p b) m)
+  with_breaks-kept b =
+      grouped_kept _ (kept-output k) (kept-errors k) (kept-host k) (kept-ports k) (kept-sending k) (kept-ram k) (kept-code k) (kept_lock k) (kept-settings k)
 
-  pub withPorts-kept : (x : Ports) → PortsKept m.plain.settings x → Kept (lift (λ p. with_ports p x) m)
-  withPorts-kept x new =
-      grouped_kept _ (kept-output k) (kept-errors k) (kept-host k) new (kept-sending k) (kept-ram k) (kept-code k) (kept-lock k) (kept-settings k)
+  pub with_ports-kept : (x : Ports) → PortsKept m.plain.settings x → Kept (lift (λ p. with_ports p x) m)
+  with_ports-kept x new =
+      grouped_kept _ (kept-output k) (kept-errors k) (kept-host k) new (kept-sending k) (kept-ram k) (kept-code k) (kept_lock k) (kept-settings k)
 
-  pub withRam-kept : (r : List ℕ) → RamKept r → Kept (lift (λ p. with_ram p r) m)
-  withRam-kept r new =
-      grouped_kept _ (kept-output k) (kept-errors k) (kept-host k) (kept-ports k) (kept-sending k) new (kept-code k) (kept-lock k) (kept-settings k)
+  pub with_ram-kept : (r : List ℕ) → RamKept r → Kept (lift (λ p. with_ram p r) m)
+  with_ram-kept r new =
+      grouped_kept _ (kept-output k) (kept-errors k) (kept-host k) (kept-ports k) (kept-sending k) new (kept-code k) (kept_lock k) (kept-settings k)
 
-  pub withHost-kept : (h : Host) → HostKept m.plain.settings h → (m.plain.locked ≡ true → h.pending ≡ 0) → Kept (lift (λ p. with_host p h) m)
-  withHost-kept h new none =
+  pub with_host-kept : (h : Host) → HostKept m.plain.settings h → (m.plain.locked ≡ true → h.pending ≡ 0) → Kept (lift (λ p. with_host p h) m)
+  with_host-kept h new none =
       grouped_kept _ (kept-output k) (kept-errors k) new (kept-ports k) (kept-sending k) (kept-ram k) (kept-code k)
       (λ l. ((k.locked l).0, none l, (k.locked l).2), k.unlocked) (kept-settings k)
 
-  pub withSending-kept : (s : Sending) → SendingKept s → (m.plain.locked ≡ true → s.to ≡ 0) → Kept (lift (λ p. with_sending p s) m)
-  withSending-kept s new nobody =
+  pub with_sending-kept : (s : Sending) → SendingKept s → (m.plain.locked ≡ true → s.to ≡ 0) → Kept (lift (λ p. with_sending p s) m)
+  with_sending-kept s new nobody =
       grouped_kept _ (kept-output k) (kept-errors k) (kept-host k) (kept-ports k) new (kept-ram k) (kept-code k)
       (λ l. ((k.locked l).0, (k.locked l).1, nobody l), k.unlocked) (kept-settings k)
 
   -- a lock code is changed only while not locked
-  pub withCode-kept : (c : List ℕ) → CodeKept c → m.plain.locked ≡ false →
+  pub with_code_kept : (c : List ℕ) → CodeKept c → m.plain.locked ≡ false →
       Kept (with_secret m (record { code = c; position = m.secret.position }))
-  withCode-kept c new unlocked =
+  with_code_kept c new unlocked =
       grouped_kept _ (kept-output k) (kept-errors k) (kept-host k) (kept-ports k) (kept-sending k) (kept-ram k) new
       (λ l. not_both l unlocked, k.unlocked) (kept-settings k)
 
   -- locked or not, with the position that goes with it
-  pub withLock-kept : (b : Bool) (i : ℕ) → LockKept (with_lock b i m) → Kept (with_lock b i m)
-  withLock-kept b i new =
+  pub with_lock_kept : (b : Bool) (i : ℕ) → LockKept (with_lock b i m) → Kept (with_lock b i m)
+  with_lock_kept b i new =
       grouped_kept _ (kept-output k) (kept-errors k) (kept-host k) (kept-ports k) (kept-sending k) (kept-ram k) (kept-code k) new (kept-settings k)

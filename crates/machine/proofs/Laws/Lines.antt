@@ -1,6 +1,6 @@
 -- Laws of the definitions in specs/Lines. Assumes nothing.
 use mathlib.Core.Path.{◌≡◌, refl, ap, sym, ◌∙◌}
-use mathlib.Core.Bool.{Bool, true, false, not, ◌&&◌, ◌||◌, or-true, and_true}
+use mathlib.Core.Bool.{Bool, true, false, not, ◌&&◌, ◌||◌, or-true, and-true}
 use Prim.Native.Nat.{ℕ, zero, suc, ◌+◌, ◌*◌, ◌/◌, ◌%◌, ◌^◌, ◌≤◌, ◌<◌}
 use native.Mathlib.Omega.{arith}
 use lib.Bits.{bit_and, bit_or, and_shr, or_shr, and_mod, or_mod}
@@ -87,53 +87,53 @@ has_or a b k =
 
 module _ (p : Public) where
   -- With the second command set a line reads 1 exactly if its pin and, below P16, its latch are 1.
-  pub inputPort-line : (k : ℕ) → k < 8 → second_set p ≡ true → has (input_port p) k ≡ (has p.ports.pins k && (has p.ports.input_latches k || leb 6 k))
+  pub input_port-line : (k : ℕ) → k < 8 → second_set p ≡ true → has (input_port p) k ≡ (has p.ports.pins k && (has p.ports.input_latches k || leb 6 k))
   unfolding input_port
-  inputPort-line k inside second =
+  input_port-line k inside second =
       let free : has 0xC0 k ≡ leb 6 k = ap (λ (x : ℕ). eqb x 1) (equal_below (bit 0xC0) (λ k. weight 1 (leb 6 k)) 8 refl k inside) ∙ weight-eqb (leb 6 k) in
       simp second (has_and p.ports.pins (bit_or p.ports.input_latches 0xC0) k ∙ simp (has_or p.ports.input_latches 0xC0 k, free))
 
   -- P17 has no latch
-  pub keySwitch-pin : has p.ports.pins 7 ≡ key_switch p
-  keySwitch-pin =
+  pub key_switch_pin : has p.ports.pins 7 ≡ key_switch p
+  key_switch_pin =
       split (second_set p)
-      (λ second. sym (inputPort-line 7 (omega arith) second ∙ simp (or-true, and_true)))
+      (λ second. sym (input_port-line 7 (omega arith) second ∙ simp (or-true, and-true)))
       (λ first. unfold input_port in simp first)
 
   module _ {switch : Bool} (is_switch : switch ≡ key_switch p) where
     pub inhibited-switch : (not switch && not (override p)) ≡ inhibited p
     inhibited-switch = ap (λ (t : Bool). not t && not (override p)) is_switch
 
-    pub mouseInhibited-switch : (p.settings.mouse_lock && not switch) ≡ mouse_inhibited p
-    mouseInhibited-switch = ap (λ (t : Bool). p.settings.mouse_lock && not t) is_switch
+    pub mouse_inhibited-switch : (p.settings.mouse_lock && not switch) ≡ mouse_inhibited p
+    mouse_inhibited-switch = ap (λ (t : Bool). p.settings.mouse_lock && not t) is_switch
 
   module _ {second : Bool} (is_second : second ≡ second_set p) where
-    pub inputPort-second : second ≡ true → bit_and p.ports.pins (bit_or p.ports.input_latches 0xC0) ≡ input_port p
+    pub input_port-second : second ≡ true → bit_and p.ports.pins (bit_or p.ports.input_latches 0xC0) ≡ input_port p
     unfolding input_port
-    inputPort-second h = simp (sym is_second ∙ h)
+    input_port-second h = simp (sym is_second ∙ h)
 
-    pub inputPort-first : second ≡ false → p.ports.pins ≡ input_port p
+    pub input_port-first : second ≡ false → p.ports.pins ≡ input_port p
     unfolding input_port
-    inputPort-first h = simp (sym is_second ∙ h)
+    input_port-first h = simp (sym is_second ∙ h)
 
     -- ---- overlay_shown
-    pub overlayShown-second : {r : ℕ} {switch : Bool} → second ≡ true → switch ≡ key_switch p →
+    pub overlay_shown-second : {r : ℕ} {switch : Bool} → second ≡ true → switch ≡ key_switch p →
         r ≡ 16 * nibble switch (has p.host.nibble 1) (has p.host.nibble 2) (has p.host.nibble 3) →
         r ≡ 16 * overlay_shown p
     unfolding overlay_shown
-    overlayShown-second h is_switch made = made ∙ simp (sym is_second ∙ h, is_switch)
+    overlay_shown-second h is_switch made = made ∙ simp (sym is_second ∙ h, is_switch)
 
-    pub overlayShown-first : second ≡ false → 16 * (p.host.nibble % 16) ≡ 16 * overlay_shown p
+    pub overlay_shown-first : second ≡ false → 16 * (p.host.nibble % 16) ≡ 16 * overlay_shown p
     unfolding overlay_shown
-    overlayShown-first h = simp (sym is_second ∙ h)
+    overlay_shown-first h = simp (sym is_second ∙ h)
 
 -- ---- status_bit5, high_nibble
 module _ (p : Public) {at' : Bool} (is_at : at' ≡ at_mode p) where
-  pub statusBit5-at : {r : Bool} → at' ≡ true → r ≡ p.errors.ttim → r ≡ status_bit5 p
-  statusBit5-at h made = made ∙ simp (sym is_at ∙ h)
+  pub status_bit5-at : {r : Bool} → at' ≡ true → r ≡ p.errors.ttim → r ≡ status_bit5 p
+  status_bit5-at h made = made ∙ simp (sym is_at ∙ h)
 
-  pub statusBit5-ps2 : {full mouse : Bool} → at' ≡ false → full ≡ p.output.full → mouse ≡ p.output.mouse → (full && mouse) ≡ status_bit5 p
-  statusBit5-ps2 h is_full is_mouse = simp (sym is_at ∙ h, is_full, is_mouse)
+  pub status_bit5-ps2 : {full mouse : Bool} → at' ≡ false → full ≡ p.output.full → mouse ≡ p.output.mouse → (full && mouse) ≡ status_bit5 p
+  status_bit5-ps2 h is_full is_mouse = simp (sym is_at ∙ h, is_full, is_mouse)
 
 pub high_with-overlay : (p : Public) (five : Bool) {r : ℕ} → p.host.overlay ≡ true → r ≡ 16 * overlay_shown p → r ≡ 16 * high_with five p
 high_with-overlay p five some made = made ∙ simp some
@@ -177,13 +177,13 @@ status_parts p {low} {high} {full} {five} is_full is_five is_low is_high =
 
 -- ---- the interrupt requests
 module _ (p : Public) {r : ℕ} {full mouse : Bool} (is_full : full ≡ p.output.full) (is_mouse : mouse ≡ p.output.mouse) where
-  pub mouse-requested : full ≡ true → mouse ≡ true → r ≡ weight 32 (mouse_interrupt p) →
+  pub mouse_requested : full ≡ true → mouse ≡ true → r ≡ weight 32 (mouse_interrupt p) →
       r ≡ 16 * nibble (keyboard_request p) (mouse_request p) false false
-  mouse-requested stands from made = made ∙ mouse-weight (mouse_interrupt p) ∙ simp (sym is_full ∙ stands, sym is_mouse ∙ from)
+  mouse_requested stands from made = made ∙ mouse-weight (mouse_interrupt p) ∙ simp (sym is_full ∙ stands, sym is_mouse ∙ from)
 
-  pub keyboard-requested : full ≡ true → mouse ≡ false → r ≡ weight 16 (keyboard_interrupt p) →
+  pub keyboard_requested : full ≡ true → mouse ≡ false → r ≡ weight 16 (keyboard_interrupt p) →
       r ≡ 16 * nibble (keyboard_request p) (mouse_request p) false false
-  keyboard-requested stands from made = made ∙ keyboard_weight (keyboard_interrupt p) ∙ simp (sym is_full ∙ stands, sym is_mouse ∙ from)
+  keyboard_requested stands from made = made ∙ keyboard_weight (keyboard_interrupt p) ∙ simp (sym is_full ∙ stands, sym is_mouse ∙ from)
 
 no_request : (p : Public) → p.output.full ≡ false → 0 ≡ 16 * nibble (keyboard_request p) (mouse_request p) false false
 unfolding nibble
@@ -206,13 +206,13 @@ pub at_port-sum : (p : Public) {low high : ℕ} {full off : Bool} → full ≡ p
 at_port-sum p is_full is_off is_low is_high = simp (is_low, is_high, is_full, is_off)
 
 module _ (p : Public) {r : ℕ} {at' : Bool} (is_at : at' ≡ at_mode p) where
-  pub outputPort-at : at' ≡ true → r ≡ at_port p → r ≡ output_port p
+  pub output_port-at : at' ≡ true → r ≡ at_port p → r ≡ output_port p
   unfolding output_port
-  outputPort-at h made = made ∙ simp (sym is_at ∙ h)
+  output_port-at h made = made ∙ simp (sym is_at ∙ h)
 
-  pub outputPort-ps2 : at' ≡ false → r ≡ ps2_port p → r ≡ output_port p
+  pub output_port-ps2 : at' ≡ false → r ≡ ps2_port p → r ≡ output_port p
   unfolding output_port
-  outputPort-ps2 h made = made ∙ simp (sym is_at ∙ h)
+  output_port-ps2 h made = made ∙ simp (sym is_at ∙ h)
 
 -- ---- status and output_port in PS/2 mode, by what the output buffer holds
 module _ (p : Public) {low lines off : ℕ} {mouse keyboard : Bool} (is_mouse : mouse ≡ mouse_off p) (is_keyboard : keyboard ≡ keyboard_off p)
@@ -222,7 +222,7 @@ module _ (p : Public) {low lines off : ℕ} {mouse keyboard : Bool} (is_mouse : 
   port-sum : {r : ℕ} → r ≡ 16 * nibble (keyboard_request p) (mouse_request p) false false → at_mode p ≡ false → lines + off + r ≡ output_port p
   port-sum {r} is_requests ps2 =
       let turned : lines + off + r ≡ lines + r + off = omega arith in
-      outputPort-ps2 p refl ps2 (turned ∙ ps2_port-sum p is_mouse is_keyboard is_lines is_requests is_off)
+      output_port-ps2 p refl ps2 (turned ∙ ps2_port-sum p is_mouse is_keyboard is_lines is_requests is_off)
 
   pub shown-empty : {full : Bool} {high : ℕ} → full ≡ p.output.full → full ≡ false → high ≡ 16 * high_with false p → at_mode p ≡ false →
       (low + high + weight 2 (input_full p) ≡ status p) × (lines + off ≡ output_port p)
@@ -239,22 +239,22 @@ module _ (p : Public) {low lines off : ℕ} {mouse keyboard : Bool} (is_mouse : 
         (low + 1 + high + weight 2 (input_full p) ≡ status p) × (lines + off + r ≡ output_port p)
     shown-mouse mouses is_high made ps2 = (
       status_parts p (sym is_full ∙ stands) (simp (ps2, sym is_full ∙ stands, sym is_from ∙ mouses)) byte_low is_high,
-      port-sum (mouse-requested p is_full is_from stands mouses made) ps2,
+      port-sum (mouse_requested p is_full is_from stands mouses made) ps2,
     )
 
     pub shown-keyboard : from ≡ false → high ≡ 16 * high_with false p → r ≡ weight 16 (keyboard_interrupt p) → at_mode p ≡ false →
         (low + 1 + high + weight 2 (input_full p) ≡ status p) × (lines + off + r ≡ output_port p)
     shown-keyboard keyboards is_high made ps2 = (
       status_parts p (sym is_full ∙ stands) (simp (ps2, sym is_full ∙ stands, sym is_from ∙ keyboards)) byte_low is_high,
-      port-sum (keyboard-requested p is_full is_from stands keyboards made) ps2,
+      port-sum (keyboard_requested p is_full is_from stands keyboards made) ps2,
     )
 
 -- ---- put_cell
 module _ (m : Machine) (k : ℕ) {b : ℕ} (read : b ≡ cell_of m.plain k) where
-  pub putCell-zero : b ≡ 0 → m ≡ lift (put_cell k) m
+  pub put_cell_zero : b ≡ 0 → m ≡ lift (put_cell k) m
   unfolding put_cell
-  putCell-zero z = simp (eq-eqb (cell_of m.plain k) 0 (sym read ∙ z))
+  put_cell_zero z = simp (eq-eqb (cell_of m.plain k) 0 (sym read ∙ z))
 
-  pub putCell-byte : (b ≡ 0 → ⊥) → lift (put b) m ≡ lift (put_cell k) m
+  pub put_cell-byte : (b ≡ 0 → ⊥) → lift (put b) m ≡ lift (put_cell k) m
   unfolding put_cell
-  putCell-byte z = simp (ne_eqb (cell_of m.plain k) 0 (λ h. z (read ∙ h)), read)
+  put_cell-byte z = simp (ne_eqb (cell_of m.plain k) 0 (λ h. z (read ∙ h)), read)

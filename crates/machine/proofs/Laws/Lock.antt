@@ -2,7 +2,7 @@
 -- Assumes nothing.
 use Prim.Native.Nat.{ℕ, zero, suc, ◌+◌, ◌-◌, ◌≤◌, ◌<◌}
 use mathlib.Core.Path.{◌≡◌, refl, sym, ap, ◌∙◌, subst}
-use mathlib.Core.Bool.{Bool, true, false, cond, ◌&&◌, and_false, false≢true}
+use mathlib.Core.Bool.{Bool, true, false, cond, ◌&&◌, and-false, false≢true}
 use mathlib.Core.List.{List, [], ◌∷◌, ◌++◌, reverse, reverse-append}
 use native.Mathlib.Omega.{arith}
 use lib.ListN.{length, take, get_or}
@@ -37,11 +37,11 @@ module _ (code : List ℕ) where
     ends_short = rw (length-take-le (suc j) code h, begun-next j h)
 
   -- ---- begun: the keys of a position end with the shorter beginnings that any keys do that end with it, and with no longer one
-  begun-longer : (q j : ℕ) → q < j → j ≤ length code → end_with (begun code q) (take j code) ≡ false
-  begun-longer q zero h most = absurd (omega arith)
-  begun-longer zero (suc j) h most = rw begun-none (ends_short j (omega arith))
-  begun-longer (suc q) (suc j) h most =
-      simp (begun-next q (omega arith), ends_next j (omega arith), begun-longer q j (omega arith) (omega arith), and_false)
+  begun_longer : (q j : ℕ) → q < j → j ≤ length code → end_with (begun code q) (take j code) ≡ false
+  begun_longer q zero h most = absurd (omega arith)
+  begun_longer zero (suc j) h most = rw begun-none (ends_short j (omega arith))
+  begun_longer (suc q) (suc j) h most =
+      simp (begun-next q (omega arith), ends_next j (omega arith), begun_longer q j (omega arith) (omega arith), and-false)
 
   begun-shorter : (q i : ℕ) (keys : List ℕ) → end_with keys (take q code) ≡ true → i ≤ q → q ≤ length code →
       end_with keys (take i code) ≡ end_with (begun code q) (take i code)
@@ -53,10 +53,10 @@ module _ (code : List ℕ) where
       let rest = begun-shorter q i keys both.1 (omega arith) (omega arith) in
       simp (begun-next q (omega arith), ends_next i (omega arith), eqb-true x (get_or code q 0) both.0, rest)
 
-  pub begun-itself : (k : ℕ) → k ≤ length code → end_with (begun code k) (take k code) ≡ true
-  begun-itself zero most = ends-none (begun code zero)
-  begun-itself (suc k) most =
-      rw (begun-next k (omega arith), ends_next k (omega arith), eq-eqb (get_or code k 0) (get_or code k 0) refl, begun-itself k (omega arith))
+  pub begun_itself : (k : ℕ) → k ≤ length code → end_with (begun code k) (take k code) ≡ true
+  begun_itself zero most = ends-none (begun code zero)
+  begun_itself (suc k) most =
+      rw (begun-next k (omega arith), ends_next k (omega arith), eq-eqb (get_or code k 0) (get_or code k 0) refl, begun_itself k (omega arith))
 
   -- ---- longest
   module _ (keys : List ℕ) where
@@ -103,7 +103,7 @@ module _ (code : List ℕ) where
         let most : q ≤ shorter code = longest-below keys (shorter code) in
         split (ltb q i)
         (λ t. let more : q < i = ltb-true _ _ t in
-        longest-most keys (shorter code) i more (omega arith) ∙ sym (begun-longer q i more (omega arith)))
+        longest-most keys (shorter code) i more (omega arith) ∙ sym (begun_longer q i more (omega arith)))
         (λ t. begun-shorter q i keys (longest-ends keys (shorter code)) (ltb-false _ _ t) (omega arith))
 
     next-alike : (x j : ℕ) → j ≤ length code → end_with (x ∷ keys) (take j code) ≡ end_with (x ∷ begun code (reached code keys)) (take j code)
@@ -113,8 +113,8 @@ module _ (code : List ℕ) where
     pub reached-next : (x : ℕ) → reached code (x ∷ keys) ≡ key_leads code (reached code keys) x
     reached-next x = longest-same (x ∷ keys) _ (shorter code) (λ j h. next-alike x j (omega arith))
 
-    pub codeTyped-next : (x : ℕ) → code_typed code (x ∷ keys) ≡ key_completes code (reached code keys) x
-    codeTyped-next x =
+    pub code_typed-next : (x : ℕ) → code_typed code (x ∷ keys) ≡ key_completes code (reached code keys) x
+    code_typed-next x =
         subst (λ (c : List ℕ). end_with (x ∷ keys) c ≡ end_with (x ∷ begun code (reached code keys)) c) (take-length code)
         (next-alike x (length code) (omega arith))
 
@@ -122,12 +122,12 @@ module _ (code : List ℕ) where
   pub reached-none : reached code [] ≡ 0
   reached-none =
       longest-is [] 0 (shorter code) (omega arith) (ends-none [])
-      (λ j more most. subst (λ (l : List ℕ). end_with l (take j code) ≡ false) begun-none (begun-longer 0 j more (omega arith)))
+      (λ j more most. subst (λ (l : List ℕ). end_with l (take j code) ≡ false) begun-none (begun_longer 0 j more (omega arith)))
 
   pub reached-begun : (k : ℕ) → k < length code → reached code (begun code k) ≡ k
   reached-begun k h =
-      longest-is (begun code k) k (shorter code) (omega arith) (begun-itself k (omega arith))
-      (λ j more most. begun-longer k j more (omega arith))
+      longest-is (begun code k) k (shorter code) (omega arith) (begun_itself k (omega arith))
+      (λ j more most. begun_longer k j more (omega arith))
 
   -- ---- position_after: from any position below the length, as if the code's first bytes, as many, had been the first keys
   module _ (k : ℕ) (h : k < length code) where
@@ -137,35 +137,35 @@ module _ (code : List ℕ) where
     position-after (x ∷ keys) =
         ap (λ (n : ℕ). key_leads code n x) (position-after keys) ∙ sym (reached-next (keys ++ begun code k) x)
 
-    pub codeTyped-after : (x : ℕ) (keys : List ℕ) → key_completes code (position_after code k keys) x ≡ code_typed code (x ∷ (keys ++ begun code k))
-    codeTyped-after x keys =
-        ap (λ (n : ℕ). key_completes code n x) (position-after keys) ∙ sym (codeTyped-next (keys ++ begun code k) x)
+    pub code_typed-after : (x : ℕ) (keys : List ℕ) → key_completes code (position_after code k keys) x ≡ code_typed code (x ∷ (keys ++ begun code k))
+    code_typed-after x keys =
+        ap (λ (n : ℕ). key_completes code n x) (position-after keys) ∙ sym (code_typed-next (keys ++ begun code k) x)
 
   -- ---- one key behind a position
-  pub next-longer : (x k j : ℕ) → suc k < j → j ≤ length code → end_with (x ∷ begun code k) (take j code) ≡ false
-  next-longer x k zero h most = absurd (omega arith)
-  next-longer x k (suc j) h most = simp (ends_next j most, begun-longer k j (omega arith) (omega arith), and_false)
+  pub next_longer : (x k j : ℕ) → suc k < j → j ≤ length code → end_with (x ∷ begun code k) (take j code) ≡ false
+  next_longer x k zero h most = absurd (omega arith)
+  next_longer x k (suc j) h most = simp (ends_next j most, begun_longer k j (omega arith) (omega arith), and-false)
 
   -- where the keys end with no beginning longer than k, those of at most k bytes are all
-  pub longest-cut : (keys : List ℕ) (k n : ℕ) → k ≤ n → ((j : ℕ) → k < j → j ≤ n → end_with keys (take j code) ≡ false) →
+  pub longest_cut : (keys : List ℕ) (k n : ℕ) → k ≤ n → ((j : ℕ) → k < j → j ≤ n → end_with keys (take j code) ≡ false) →
       longest code n keys ≡ longest code k keys
-  longest-cut keys k n most none =
+  longest_cut keys k n most none =
       let below = longest-below keys k in
       longest-is keys (longest code k keys) n (omega (arith, below)) (longest-ends keys k)
       (λ j more upto. split (ltb k j) (λ t. none j (ltb-true k j t) upto) (λ t. longest-most keys k j more (ltb-false k j t)))
 
   -- the whole code is the longest beginning exactly if it is one that the keys end with; else the longest is shorter
   module _ (keys : List ℕ) {k : ℕ} (is_longest : k ≡ longest code (length code) keys) where
-    pub codeTyped-whole : k ≡ length code → code_typed code keys ≡ true
-    codeTyped-whole e = subst (λ (c : List ℕ). end_with keys c ≡ true) (take-length code) (rw (sym (sym is_longest ∙ e)) (longest-ends keys (length code)))
+    pub code_typed-whole : k ≡ length code → code_typed code keys ≡ true
+    code_typed-whole e = subst (λ (c : List ℕ). end_with keys c ≡ true) (take-length code) (rw (sym (sym is_longest ∙ e)) (longest-ends keys (length code)))
 
-    pub codeTyped-part : (k ≡ length code → ⊥) → code_typed code keys ≡ false
-    codeTyped-part f =
+    pub code_typed-part : (k ≡ length code → ⊥) → code_typed code keys ≡ false
+    code_typed-part f =
         subst (λ (c : List ℕ). end_with keys c ≡ false) (take-length code)
         (longest-most keys (length code) (length code) (omega (arith, longest-below keys (length code))) (omega arith))
 
     pub reached-part : (k ≡ length code → ⊥) → k ≡ reached code keys
     reached-part f =
         is_longest
-        ∙ longest-cut keys (shorter code) (length code) (omega arith)
+        ∙ longest_cut keys (shorter code) (length code) (omega arith)
         (λ j more upto. longest-most keys (length code) j (omega (arith, longest-below keys (length code))) upto)

@@ -1,6 +1,6 @@
 -- In PS/2 mode with the first command set every rule is document 01's, at each place of every list that runs from fresh. Assumes nothing.
 use mathlib.Core.Path.{◌≡◌, ap, sym, ◌∙◌}
-use mathlib.Core.Bool.{Bool, false, and_false, and_true}
+use mathlib.Core.Bool.{Bool, false, and-false, and-true}
 use mathlib.Core.List.{List}
 use Rattle.machine.specs.Settings.{Settings}
 use Rattle.machine.specs.State.{Machine, fresh, with_errors}
@@ -27,14 +27,14 @@ ps2_rules m k ps2 one =
       command = λ c first. simp (ps2, one, first);
       unknown = λ c second. simp (ps2, one, second);
       own = λ c first. second_none c m.plain first;
-      asked = simp (one, and_true);
+      asked = simp (one, and-true);
       overlays = λ n. simp one;
       latches = λ v. simp (ps2, one);
       inputs = simp ps2;
       pulses = λ c. simp ps2;
       errors = λ t e. ap (λ (b : Bool). with_errors m.plain (record { terr = t; perr = e; ttim = b })) (sym (k.ttim ps2));
       timeout = simp (ps2, k.ttim ps2);
-      checks = λ n. simp (ps2, and_false);
+      checks = λ n. simp (ps2, and-false);
     }
 
 pub ps2-run : (x : Settings) → SettingsKept x → x.at_mode ≡ false → x.second_set ≡ false → (es : List Event) → Ps2Rules (after (fresh x) es)

@@ -12,7 +12,7 @@ use Rattle.translation.proofs.Tests.{split}
 use Rattle.machine.specs.State.{Machine, lift}
 use Rattle.machine.specs.Devices.{keyboard_frame, mouse_frame}
 use Rattle.machine.specs.Events.{Event, value, refusal, accept, step, byte_read, old_mark, pulse, lines, reply, refused_reply, answer}
-use Rattle.machine.proofs.Laws.Events.{accepted-value, accept-keyboard, accept-mouse, step-accepted, step-refused, reply-accepted, reply-refused}
+use Rattle.machine.proofs.Laws.Events.{accepted-value, accept_keyboard, accept-mouse, step-accepted, step-refused, reply-accepted, reply-refused}
 
 -- A frame from the keyboard or the mouse whose start bit is 1. One of more than eleven bits is refused by 2.
 pub record Noise (e : Event) : Type 0 where
@@ -29,7 +29,7 @@ module _ (m : Machine) (e : Event) (n : Noise e) where
   unfolding keyboard_frame mouse_frame
   accept-noise a =
       ⊎_elim
-      (λ k. accept-keyboard m e k ∙ ap (λ (c : Check). keyboard_frame c m) (found a))
+      (λ k. accept_keyboard m e k ∙ ap (λ (c : Check). keyboard_frame c m) (found a))
       (λ k. accept-mouse m e k ∙ ap (λ (c : Check). lift (mouse_frame c) m) (found a))
       n.kind
 

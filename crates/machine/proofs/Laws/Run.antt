@@ -106,26 +106,26 @@ fitting_more list space h room =
 
 -- a list's first n events
 module _ (n : ℕ) (list space : List ℕ) (some : 3 * n ≤ length list) where
-  pub length-piece : length (events (take (3 * n) list)) ≡ n
-  length-piece = length-events (take (3 * n) list) ∙ simp length-take (omega arith)
+  pub length_piece : length (events (take (3 * n) list)) ≡ n
+  length_piece = length-events (take (3 * n) list) ∙ simp length-take (omega arith)
 
   -- they have room, and so has what fits of the rest
-  pub fitting-piece : 9 * n ≤ length space → fitting (take (3 * n) list) space ≡ events (take (3 * n) list)
-  fitting-piece room = take_all (length space / 9) (events (take (3 * n) list)) (omega (arith, length-piece))
+  pub fitting_piece : 9 * n ≤ length space → fitting (take (3 * n) list) space ≡ events (take (3 * n) list)
+  fitting_piece room = take_all (length space / 9) (events (take (3 * n) list)) (omega (arith, length_piece))
 
   pub fitting-split : 9 * n ≤ length space →
       fitting list space ≡ events (take (3 * n) list) ++ fitting (drop (3 * n) list) (drop (9 * n) space)
   fitting-split room =
       let es = events (take (3 * n) list) in
-      let count : length space / 9 ≡ length es + length (drop (9 * n) space) / 9 = simp length-drop (omega (arith, length-piece)) in
+      let count : length space / 9 ≡ length es + length (drop (9 * n) space) / 9 = simp length-drop (omega (arith, length_piece)) in
       ap₂ (λ (k : ℕ) (fs : List Event). take k fs) count (events-split n list some)
       ∙ take-append-add es (events (drop (3 * n) list)) (length (drop (9 * n) space) / 9)
 
   -- they do not all have room: what stands behind them changes nothing
-  pub fitting-cut : length space < 9 * n → fitting (take (3 * n) list) space ≡ fitting list space
-  fitting-cut tight =
+  pub fitting_cut : length space < 9 * n → fitting (take (3 * n) list) space ≡ fitting list space
+  fitting_cut tight =
       let es = events (take (3 * n) list) in
-      sym (ap (take (length space / 9)) (events-split n list some) ∙ take-append-le (length space / 9) es (events (drop (3 * n) list)) (omega (arith, length-piece)))
+      sym (ap (take (length space / 9)) (events-split n list some) ∙ take-append-le (length space / 9) es (events (drop (3 * n) list)) (omega (arith, length_piece)))
 
 -- where the call is not refused
 pub fitting_all : (list space : List ℕ) → list_refusal list space ≡ 0 → fitting list space ≡ events list

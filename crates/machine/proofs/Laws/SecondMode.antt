@@ -44,37 +44,37 @@ same false x = refl
 
 -- ---- rules of the public part
 module _ (p : Public) where
-  plainData-part : (v : ℕ) → part (plain_data v p) ≡ part p
+  plain_data_part : (v : ℕ) → part (plain_data v p) ≡ part p
   unfolding plain_data
-  plainData-part v = simp (of_pending, of_locked, same)
+  plain_data_part v = simp (of_pending, of_locked, same)
 
-  secondCommand-part : (c : ℕ) → part (second_command c p) ≡ part p
+  second_command_part : (c : ℕ) → part (second_command c p) ≡ part p
   unfolding second_command line_written single_command
-  secondCommand-part c = simp (of_pending, of_locked, same)
+  second_command_part c = simp (of_pending, of_locked, same)
 
-  plainCommand-part : (c : ℕ) → part (plain_command c p) ≡ part p
+  plain_command_part : (c : ℕ) → part (plain_command c p) ≡ part p
   unfolding plain_command
-  plainCommand-part c =
-      let own = secondCommand-part c in
+  plain_command_part c =
+      let own = second_command_part c in
       simp (of_pending, of_locked, ap (λ (x : ℕ × Bool). x.0) own, ap (λ (x : ℕ × Bool). x.1) own, same)
 
-  keyError-part : part (key_error p) ≡ part p
+  key_error_part : part (key_error p) ≡ part p
   unfolding key_error
-  keyError-part = simp (of_pending, of_locked, same)
+  key_error_part = simp (of_pending, of_locked, same)
 
-  mousePut-part : (b : ℕ) → part (mouse_put b p) ≡ part p
+  mouse_put_part : (b : ℕ) → part (mouse_put b p) ≡ part p
   unfolding mouse_put
-  mousePut-part b = simp (of_pending, of_locked, same)
+  mouse_put_part b = simp (of_pending, of_locked, same)
 
-  timedOut-part : part (timed_out p) ≡ part p
+  timed_out_part : part (timed_out p) ≡ part p
   unfolding timed_out
-  timedOut-part = simp (of_pending, of_locked, same)
+  timed_out_part = simp (of_pending, of_locked, same)
 
 mouse_frame_part : (c : Check) (p : Public) → part (mouse_frame c p) ≡ part p
 unfolding mouse_frame
-mouse_frame_part (sound b) p = mousePut-part _ b
-mouse_frame_part parity p = mousePut-part _ 0xFF
-mouse_frame_part broken p = mousePut-part _ 0xFF
+mouse_frame_part (sound b) p = mouse_put_part _ b
+mouse_frame_part parity p = mouse_put_part _ 0xFF
+mouse_frame_part broken p = mouse_put_part _ 0xFF
 mouse_frame_part noise p = refl
 
 -- ---- rules of the machine
@@ -89,32 +89,32 @@ second_lift f m a e =
     }
 
 module _ (m : Machine) (a : SecondMachine m) where
-  writeData-second : (v : ℕ) → SecondMachine (write_data v m)
+  write_data_second : (v : ℕ) → SecondMachine (write_data v m)
   unfolding write_data
-  writeData-second v =
+  write_data_second v =
       cond-holds SecondMachine (eqb m.plain.host.pending 3) (λ e. absurd (a.plain.load (eqb-true m.plain.host.pending 3 e)))
-      (λ _. record { plain = record { load = omega arith; locked = ap (λ (x : ℕ × Bool). x.1) (plainData-part _ v) ∙ a.plain.locked }; code = a.code })
+      (λ _. record { plain = record { load = omega arith; locked = ap (λ (x : ℕ × Bool). x.1) (plain_data_part _ v) ∙ a.plain.locked }; code = a.code })
 
-  loadCut-second : SecondMachine (load_cut m)
+  load_cut_second : SecondMachine (load_cut m)
   unfolding load_cut
-  loadCut-second = cond_both SecondMachine (eqb m.plain.host.pending 3) (record { plain = a.plain; code = refl }) a
+  load_cut_second = cond_both SecondMachine (eqb m.plain.host.pending 3) (record { plain = a.plain; code = refl }) a
 
   put_second : (b : ℕ) → SecondMachine (lift (put b) m)
   put_second b = second_lift (put b) m a refl
 
-  acts-second : (c : ℕ) → first_only c ≡ false → SecondMachine (acts c m)
+  acts_second : (c : ℕ) → first_only c ≡ false → SecondMachine (acts c m)
   unfolding acts code_asked
-  acts-second c known =
+  acts_second c known =
       let never : (k : ℕ) → first_only k ≡ true → eqb c k ≡ true → ⊥ = λ k only e. not_both (ap first_only (eqb-true c k e) ∙ only) known in
       cond_both SecondMachine (eqb c 0xA4) (cond_both SecondMachine (has_code m && not (second_set m.plain)) (put_second 0xFA) (put_second 0xF1))
       (cond-holds SecondMachine (eqb c 0xA5) (λ e. absurd (never 0xA5 refl e)) λ _.
       cond-holds SecondMachine (eqb c 0xA6) (λ e. absurd (never 0xA6 refl e)) λ _.
-      second_lift (plain_command c) m a (plainCommand-part m.plain c))
+      second_lift (plain_command c) m a (plain_command_part m.plain c))
 
-  yieldDelivered-second : (y : Yielded) → SecondMachine (yield_delivered y m)
+  yield_delivered_second : (y : Yielded) → SecondMachine (yield_delivered y m)
   unfolding yield_delivered byte_delivered
-  yieldDelivered-second nothing = a
-  yieldDelivered-second (byte x) =
+  yield_delivered_second nothing = a
+  yield_delivered_second (byte x) =
       cond_both SecondMachine (inhibited m.plain) a
       (cond-holds SecondMachine m.plain.locked (λ l. not_both l a.plain.locked) (λ _. put_second x))
 
@@ -123,19 +123,19 @@ unfolding write_command
 write_command_second m a second c =
     let known = understood m.plain.settings c in
     let none : first_only known ≡ false = (understood-known m.plain.settings c).first second in
-    let cut = loadCut-second m a in
+    let cut = load_cut_second m a in
     let written : SecondMachine (lift (command_written known) (load_cut m)) =
     record { plain = record { load = λ e. not_both (ap first_only (pending_of-load known e)) none; locked = cut.plain.locked }; code = cut.code } in
-    acts-second (lift (command_written known) (load_cut m)) written known none
+    acts_second (lift (command_written known) (load_cut m)) written known none
 
 damaged_second : (m : Machine) → SecondMachine m → (t e : Bool) → SecondMachine (damaged_key t e m)
 damaged_second m a t e =
-    let shown = second_lift (λ p. key_error (breaking false (errors_set t e p))) m a (keyError-part _) in
+    let shown = second_lift (λ p. key_error (breaking false (errors_set t e p))) m a (key_error_part _) in
     record { plain = shown.plain; code = shown.code }
 
 keyboard_frame_second : (c : Check) (m : Machine) → SecondMachine m → SecondMachine (keyboard_frame c m)
 unfolding keyboard_frame sound_key
-keyboard_frame_second (sound b) m a = yieldDelivered-second _ (record { plain = record { load = a.plain.load; locked = a.plain.locked }; code = a.code }) _
+keyboard_frame_second (sound b) m a = yield_delivered_second _ (record { plain = record { load = a.plain.load; locked = a.plain.locked }; code = a.code }) _
 keyboard_frame_second parity m a = damaged_second m a false true
 keyboard_frame_second broken m a = damaged_second m a true false
 keyboard_frame_second noise m a = a
@@ -143,10 +143,10 @@ keyboard_frame_second noise m a = a
 -- ---- accept, step, after
 accept_second : (m : Machine) (e : Event) → SecondMachine m → second_set m.plain ≡ true → SecondMachine (accept m e)
 accept_second m e a second =
-    accept-holds m e SecondMachine a (second_lift emptied m a refl) (λ _. writeData-second m a (value e))
+    accept-holds m e SecondMachine a (second_lift emptied m a refl) (λ _. write_data_second m a (value e))
     (λ _. write_command_second m a second (value e)) (λ _. keyboard_frame_second (check (value e)) m a)
     (second_lift (mouse_frame (check (value e))) m a (mouse_frame_part (check (value e)) m.plain)) (second_lift taken m a refl)
-    (second_lift timed_out m a (timedOut-part m.plain)) (λ _. second_lift (pinned (value e)) m a refl)
+    (second_lift timed_out m a (timed_out_part m.plain)) (λ _. second_lift (pinned (value e)) m a refl)
 
 step_second : (m : Machine) (e : Event) → SecondMachine m → second_set m.plain ≡ true → SecondMachine (step m e)
 unfolding step

@@ -28,9 +28,9 @@ second_none_are first n passed c low high = sym (not-true _ (from_on (λ k. not 
 
 -- ---- second_command, by the tests in its order
 module _ (m : Machine) (c : ℕ) {nine : Bool} (is_nine : nine ≡ within 0x90 0x9F c) where
-  pub second-9x : nine ≡ true → lift (low_lines_written c) m ≡ lift (second_command c) m
+  pub second_9x : nine ≡ true → lift (low_lines_written c) m ≡ lift (second_command c) m
   unfolding second_command
-  second-9x h = simp (sym is_nine ∙ h)
+  second_9x h = simp (sym is_nine ∙ h)
 
   module _ (no9 : nine ≡ false) {b : Bool} (is_b : b ≡ within 0xB0 0xBF c) where
     pub second-Bx : b ≡ true → lift (line_written (c % 8) (leb 0xB8 c)) m ≡ lift (second_command c) m
@@ -48,29 +48,29 @@ module _ (m : Machine) (c : ℕ) {nine : Bool} (is_nine : nine ≡ within 0x90 0
 
 -- ---- single_command
 module _ (m : Machine) (c : ℕ) where
-  pub second-A1 : c ≡ 0xA1 → lift version_put m ≡ lift (single_command c) m
+  pub second_A1 : c ≡ 0xA1 → lift version_put m ≡ lift (single_command c) m
   unfolding single_command
-  second-A1 key = simp key
+  second_A1 key = simp key
 
-  pub second-AF : c ≡ 0xAF → lift version_put m ≡ lift (single_command c) m
+  pub second_AF : c ≡ 0xAF → lift version_put m ≡ lift (single_command c) m
   unfolding single_command
-  second-AF key = simp key
+  second_AF key = simp key
 
-  pub second-C8 : c ≡ 0xC8 → lift (permitted true) m ≡ lift (single_command c) m
+  pub second_C8 : c ≡ 0xC8 → lift (permitted true) m ≡ lift (single_command c) m
   unfolding single_command
-  second-C8 key = simp key
+  second_C8 key = simp key
 
-  pub second-C9 : c ≡ 0xC9 → lift (permitted false) m ≡ lift (single_command c) m
+  pub second_C9 : c ≡ 0xC9 → lift (permitted false) m ≡ lift (single_command c) m
   unfolding single_command
-  second-C9 key = simp key
+  second_C9 key = simp key
 
-  pub second-CA : c ≡ 0xCA → lift mode_reported m ≡ lift (single_command c) m
+  pub second_CA : c ≡ 0xCA → lift mode_reported m ≡ lift (single_command c) m
   unfolding single_command
-  second-CA key = simp key
+  second_CA key = simp key
 
-  pub second-other : (c ≡ 0xA1 → ⊥) → (c ≡ 0xAF → ⊥) → (c ≡ 0xC8 → ⊥) → (c ≡ 0xC9 → ⊥) → (c ≡ 0xCA → ⊥) → m ≡ lift (single_command c) m
+  pub second_other : (c ≡ 0xA1 → ⊥) → (c ≡ 0xAF → ⊥) → (c ≡ 0xC8 → ⊥) → (c ≡ 0xC9 → ⊥) → (c ≡ 0xCA → ⊥) → m ≡ lift (single_command c) m
   unfolding single_command
-  second-other n_a1 n_aF n_c8 n_c9 n_cA = simp (ne_eqb _ _ n_a1, ne_eqb _ _ n_aF, ne_eqb _ _ n_c8, ne_eqb _ _ n_c9, ne_eqb _ _ n_cA)
+  second_other n_a1 n_aF n_c8 n_c9 n_cA = simp (ne_eqb _ _ n_a1, ne_eqb _ _ n_aF, ne_eqb _ _ n_c8, ne_eqb _ _ n_c9, ne_eqb _ _ n_cA)
 
 -- a command that is none of the set's own does nothing
 pub second_none : (c : ℕ) (p : Public) → second_only c ≡ false → second_command c p ≡ p
@@ -94,45 +94,45 @@ last : (k : ℕ) → 4 ≤ k → k < 8 → (k ≡ 4 → ⊥) → (k ≡ 5 → �
 last k low high n4 n5 n6 = omega arith
 
 module _ (m : Machine) (on : Bool) {k : ℕ} where
-  pub line-0 : k ≡ 0 → lift (input_line_written 1 on) m ≡ lift (line_written k on) m
+  pub line_0 : k ≡ 0 → lift (input_line_written 1 on) m ≡ lift (line_written k on) m
   unfolding line_written
-  line-0 key = simp key
+  line_0 key = simp key
 
-  pub line-1 : k ≡ 1 → lift (input_line_written 2 on) m ≡ lift (line_written k on) m
+  pub line_1 : k ≡ 1 → lift (input_line_written 2 on) m ≡ lift (line_written k on) m
   unfolding line_written
-  line-1 key = simp key
+  line_1 key = simp key
 
-  pub line-2 : k ≡ 2 → lift (input_line_written 4 on) m ≡ lift (line_written k on) m
+  pub line_2 : k ≡ 2 → lift (input_line_written 4 on) m ≡ lift (line_written k on) m
   unfolding line_written
-  line-2 key = simp key
+  line_2 key = simp key
 
-  pub line-3 : k ≡ 3 → lift (input_line_written 8 on) m ≡ lift (line_written k on) m
+  pub line_3 : k ≡ 3 → lift (input_line_written 8 on) m ≡ lift (line_written k on) m
   unfolding line_written
-  line-3 key = simp key
+  line_3 key = simp key
 
-  pub line-4 : k ≡ 4 → lift (λ p. high_latched on p.ports.p23 p.ports.p25 p) m ≡ lift (line_written k on) m
+  pub line_4 : k ≡ 4 → lift (λ p. high_latched on p.ports.p23 p.ports.p25 p) m ≡ lift (line_written k on) m
   unfolding line_written
-  line-4 key = simp key
+  line_4 key = simp key
 
-  pub line-5 : k ≡ 5 → lift (λ p. high_latched p.ports.p22 on p.ports.p25 p) m ≡ lift (line_written k on) m
+  pub line_5 : k ≡ 5 → lift (λ p. high_latched p.ports.p22 on p.ports.p25 p) m ≡ lift (line_written k on) m
   unfolding line_written
-  line-5 key = simp key
+  line_5 key = simp key
 
-  pub line-6 : k ≡ 6 → lift (input_line_written 16 on) m ≡ lift (line_written k on) m
+  pub line_6 : k ≡ 6 → lift (input_line_written 16 on) m ≡ lift (line_written k on) m
   unfolding line_written
-  line-6 key = simp key
+  line_6 key = simp key
 
-  pub line-7 : k < 8 → (k ≡ 0 → ⊥) → (k ≡ 1 → ⊥) → (k ≡ 2 → ⊥) → (k ≡ 3 → ⊥) → (k ≡ 4 → ⊥) → (k ≡ 5 → ⊥) → (k ≡ 6 → ⊥) →
+  pub line_7 : k < 8 → (k ≡ 0 → ⊥) → (k ≡ 1 → ⊥) → (k ≡ 2 → ⊥) → (k ≡ 3 → ⊥) → (k ≡ 4 → ⊥) → (k ≡ 5 → ⊥) → (k ≡ 6 → ⊥) →
       lift (input_line_written 32 on) m ≡ lift (line_written k on) m
   unfolding line_written
-  line-7 h n0 n1 n2 n3 n4 n5 n6 =
+  line_7 h n0 n1 n2 n3 n4 n5 n6 =
       let seven : k ≡ 7 = last k (past k n0 n1 n2 n3) h n4 n5 n6 in
       simp seven
 
 -- what is done with the second set alone
 module _ (m : Machine) (c : ℕ) {second : Bool} (is_second : second ≡ second_set m.plain) where
-  pub own-second : second ≡ true → lift (second_command c) m ≡ lift (λ p. cond (second_set p) (second_command c p) p) m
-  own-second h = simp (sym is_second ∙ h)
+  pub own_second : second ≡ true → lift (second_command c) m ≡ lift (λ p. cond (second_set p) (second_command c p) p) m
+  own_second h = simp (sym is_second ∙ h)
 
   pub own_first : second ≡ false → m ≡ lift (λ p. cond (second_set p) (second_command c p) p) m
   own_first h = simp (sym is_second ∙ h)

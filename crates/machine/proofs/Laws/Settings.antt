@@ -36,46 +36,46 @@ fresh-settings x = refl
 
 -- ---- rules of the public part
 module _ (p : Public) where
-  putCell-settings : (k : ℕ) → (put_cell k p).settings ≡ p.settings
+  put_cell-settings : (k : ℕ) → (put_cell k p).settings ≡ p.settings
   unfolding put_cell
-  putCell-settings k = simp (of_public, same)
+  put_cell-settings k = simp (of_public, same)
 
-  plainData-settings : (v : ℕ) → (plain_data v p).settings ≡ p.settings
+  plain_data-settings : (v : ℕ) → (plain_data v p).settings ≡ p.settings
   unfolding plain_data
-  plainData-settings v = simp (of_public, same)
+  plain_data-settings v = simp (of_public, same)
 
-  secondCommand-settings : (c : ℕ) → (second_command c p).settings ≡ p.settings
+  second_command-settings : (c : ℕ) → (second_command c p).settings ≡ p.settings
   unfolding second_command line_written single_command
-  secondCommand-settings c = simp (of_public, same)
+  second_command-settings c = simp (of_public, same)
 
-  plainCommand-settings : (c : ℕ) → (plain_command c p).settings ≡ p.settings
+  plain_command-settings : (c : ℕ) → (plain_command c p).settings ≡ p.settings
   unfolding plain_command
-  plainCommand-settings c = simp (of_public, secondCommand-settings, same)
+  plain_command-settings c = simp (of_public, second_command-settings, same)
 
-  keyError-settings : (key_error p).settings ≡ p.settings
+  key_error-settings : (key_error p).settings ≡ p.settings
   unfolding key_error
-  keyError-settings = simp (of_public, same)
+  key_error-settings = simp (of_public, same)
 
-  mousePut-settings : (b : ℕ) → (mouse_put b p).settings ≡ p.settings
+  mouse_put-settings : (b : ℕ) → (mouse_put b p).settings ≡ p.settings
   unfolding mouse_put
-  mousePut-settings b = simp (of_public, same)
+  mouse_put-settings b = simp (of_public, same)
 
-  timedOut-settings : (timed_out p).settings ≡ p.settings
+  timed_out-settings : (timed_out p).settings ≡ p.settings
   unfolding timed_out
-  timedOut-settings = simp (of_public, same)
+  timed_out-settings = simp (of_public, same)
 
 mouse_frame-settings : (c : Check) (p : Public) → (mouse_frame c p).settings ≡ p.settings
 unfolding mouse_frame
-mouse_frame-settings (sound b) p = mousePut-settings _ b
-mouse_frame-settings parity p = mousePut-settings _ 0xFF
-mouse_frame-settings broken p = mousePut-settings _ 0xFF
+mouse_frame-settings (sound b) p = mouse_put-settings _ b
+mouse_frame-settings parity p = mouse_put-settings _ 0xFF
+mouse_frame-settings broken p = mouse_put-settings _ 0xFF
 mouse_frame-settings noise p = refl
 
 -- ---- rules of the machine
 module _ (m : Machine) where
-  loadByte-settings : (v : ℕ) → (load_byte v m).plain.settings ≡ m.plain.settings
+  load_byte-settings : (v : ℕ) → (load_byte v m).plain.settings ≡ m.plain.settings
   unfolding load_byte
-  loadByte-settings v = simp (of_machine, same)
+  load_byte-settings v = simp (of_machine, same)
 
   load_cut-settings : (load_cut m).plain.settings ≡ m.plain.settings
   unfolding load_cut
@@ -83,20 +83,20 @@ module _ (m : Machine) where
 
   acts-settings : (c : ℕ) → (acts c m).plain.settings ≡ m.plain.settings
   unfolding acts code_asked lock_command
-  acts-settings c = simp (of_machine, putCell-settings, plainCommand-settings, same)
+  acts-settings c = simp (of_machine, put_cell-settings, plain_command-settings, same)
 
   try-settings : (x : ℕ) → (try x m).plain.settings ≡ m.plain.settings
   unfolding try key_matched
-  try-settings x = simp (of_machine, putCell-settings, same)
+  try-settings x = simp (of_machine, put_cell-settings, same)
 
-  yieldDelivered-settings : (y : Yielded) → (yield_delivered y m).plain.settings ≡ m.plain.settings
+  yield_delivered-settings : (y : Yielded) → (yield_delivered y m).plain.settings ≡ m.plain.settings
   unfolding yield_delivered byte_delivered
-  yieldDelivered-settings nothing = refl
-  yieldDelivered-settings (byte x) = simp (of_machine, try-settings, same)
+  yield_delivered-settings nothing = refl
+  yield_delivered-settings (byte x) = simp (of_machine, try-settings, same)
 
 write_data-settings : (v : ℕ) (m : Machine) → (write_data v m).plain.settings ≡ m.plain.settings
 unfolding write_data
-write_data-settings v m = simp (of_machine, loadByte-settings, plainData-settings, same)
+write_data-settings v m = simp (of_machine, load_byte-settings, plain_data-settings, same)
 
 write_command-settings : (c : ℕ) (m : Machine) → (write_command c m).plain.settings ≡ m.plain.settings
 unfolding write_command
@@ -104,9 +104,9 @@ write_command-settings c m = acts-settings _ _ ∙ load_cut-settings m
 
 keyboard_frame-settings : (c : Check) (m : Machine) → (keyboard_frame c m).plain.settings ≡ m.plain.settings
 unfolding keyboard_frame sound_key
-keyboard_frame-settings (sound b) m = yieldDelivered-settings _ _
-keyboard_frame-settings parity m = keyError-settings _
-keyboard_frame-settings broken m = keyError-settings _
+keyboard_frame-settings (sound b) m = yield_delivered-settings _ _
+keyboard_frame-settings parity m = key_error-settings _
+keyboard_frame-settings broken m = key_error-settings _
 keyboard_frame-settings noise m = refl
 
 accept-settings : (m : Machine) (e : Event) → (accept m e).plain.settings ≡ m.plain.settings
@@ -118,7 +118,7 @@ accept-settings m e =
       write_command-settings,
       keyboard_frame-settings,
       mouse_frame-settings,
-      timedOut-settings,
+      timed_out-settings,
       same,
     )
 

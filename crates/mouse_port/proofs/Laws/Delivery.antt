@@ -14,9 +14,9 @@ use Rattle.machine.specs.Lines.{input_port, input_full, system, key_switch, mous
 use Rattle.machine.specs.Devices as devices
 use Rattle.machine.specs.Devices.{errors_set}
 use Rattle.machine.specs.Events.{Event, value, refusal, state_refusal, step, emptied, reply, lines, answer}
-use Rattle.machine.proofs.Laws.Devices.{mousePut-on}
-use Rattle.machine.proofs.Laws.Events.{refusal_fits, reads_fit, step-accepted, accept-mouse, accept-read, reply-accepted}
-use Rattle.machine.proofs.Laws.Bits.{lines-0, lines-5}
+use Rattle.machine.proofs.Laws.Devices.{mouse_put-on}
+use Rattle.machine.proofs.Laws.Events.{refusal_fits, reads_fit, step-accepted, accept-mouse, accept_read, reply-accepted}
+use Rattle.machine.proofs.Laws.Bits.{lines_0, lines_5}
 use Rattle.trackball.specs.Trackball.{Mouse}
 use Rattle.trackball.specs.Packets.{report_bytes}
 use Rattle.trackball.specs.Commands.{reply_bytes}
@@ -58,7 +58,7 @@ module _ (m : Machine) (ready : Ready m.plain) (b : ℕ) (byte : b < 256) where
 
   frame-put : lift (devices.mouse_frame (sound b)) m ≡ lift (waiting b) m
   unfolding devices.mouse_frame
-  frame-put = sym (mousePut-on (lift (errors_set false false) m) b (sym ready.unlocked) (sym still-passed) refl)
+  frame-put = sym (mouse_put-on (lift (errors_set false false) m) b (sym ready.unlocked) (sym still-passed) refl)
 
   step-frame : step m e ≡ lift (waiting b) m
   step-frame =
@@ -75,31 +75,31 @@ module _ (m : Machine) (ready : Ready m.plain) (b : ℕ) (byte : b < 256) where
   read_taken : (q : Public) → refusal q data_read ≡ 0
   read_taken q = sym (reads_fit q 0 0 (omega arith)).0
 
-  step-read : step (step m e) data_read ≡ read b m
-  step-read =
+  step_read : step (step m e) data_read ≡ read b m
+  step_read =
       ap (λ (x : Machine). step x data_read) step-frame ∙ step-accepted (lift (waiting b) m) data_read (read_taken _)
-      ∙ accept-read (lift (waiting b) m) data_read refl
+      ∙ accept_read (lift (waiting b) m) data_read refl
 
-  answer-read : answer (step m e) data_read ≡ 0 ∷ b ∷ 0 ∷ lines (step (lift (waiting b) m) data_read).plain 0
-  answer-read = ap (λ (x : Machine). answer x data_read) step-frame ∙ reply-accepted (waiting b p) data_read _ (read_taken _)
+  answer_read : answer (step m e) data_read ≡ 0 ∷ b ∷ 0 ∷ lines (step (lift (waiting b) m) data_read).plain 0
+  answer_read = ap (λ (x : Machine). answer x data_read) step-frame ∙ reply-accepted (waiting b p) data_read _ (read_taken _)
 
   -- ---- both
-  pub byte-read : ReadAs m (frame b) b
-  byte-read =
+  pub byte_read_back : ReadAs m (frame b) b
+  byte_read_back =
       record {
         taken = ap refusal_of answer-frame;
-        waits = ap (λ (n : ℕ). has n 0) status-frame ∙ lines-0 true _ _ _ _ true false false;
-        from_mouse = ap (λ (n : ℕ). has n 5) status-frame ∙ lines-5 true _ _ _ _ true false false;
-        accepted = ap refusal_of answer-read;
-        byte = ap read_of answer-read;
-        new = ap old_of answer-read;
+        waits = ap (λ (n : ℕ). has n 0) status-frame ∙ lines_0 true _ _ _ _ true false false;
+        from_mouse = ap (λ (n : ℕ). has n 5) status-frame ∙ lines_5 true _ _ _ _ true false false;
+        accepted = ap refusal_of answer_read;
+        byte = ap read_of answer_read;
+        new = ap old_of answer_read;
       }
 
   -- as ready as before
-  pub ready-again : Ready (step (step m e) data_read).plain
+  pub ready_again : Ready (step (step m e) data_read).plain
   unfolding input_port
-  ready-again =
-      subst (λ (x : Machine). Ready x.plain) (sym step-read)
+  ready_again =
+      subst (λ (x : Machine). Ready x.plain) (sym step_read)
       (record {
         ps2 = ready.ps2;
         on = ready.on;
@@ -114,8 +114,8 @@ module _ (m : Machine) (ready : Ready m.plain) (b : ℕ) (byte : b < 256) where
 pub delivered : (m : Machine) → Ready m.plain → (bytes : List ℕ) → Below 256 bytes → AllRead m (map frame bytes) bytes
 delivered m ready [] below = none
 delivered m ready (b ∷ bs) below =
-    next (byte-read m ready b (below 0))
-    (delivered (step (step m (mouse_frame (frame b))) data_read) (ready-again m ready b (below 0)) bs (λ k. below (suc k)))
+    next (byte_read_back m ready b (below 0))
+    (delivered (step (step m (mouse_frame (frame b))) data_read) (ready_again m ready b (below 0)) bs (λ k. below (suc k)))
 
 pub judged : (bytes : List ℕ) → Below 256 bytes → map check (map frame bytes) ≡ map sound bytes
 judged [] below = refl

@@ -95,10 +95,10 @@ module _ (x : Settings) (list space out : List ℕ) where
       let none : leb 0 (length space) ≡ true = le-leb 0 (length space) (omega arith) in
       simp (answered-refused x list a, page-refused x list a, none)
 
-  room-both : refused list ≡ false → 9 * (length list / 3) ≤ length space → 28 + 27 * (length list / 3) ≤ length out →
+  room_both : refused list ≡ false → 9 * (length list / 3) ≤ length space → 28 + 27 * (length list / 3) ≤ length out →
       room x list space out ≡ true
   unfolding room
-  room-both a many long =
+  room_both a many long =
       simp (
         length-answered x list a,
         length-page x list a,
@@ -106,13 +106,13 @@ module _ (x : Settings) (list space out : List ℕ) where
         le-leb (28 + 27 * (length list / 3)) (length out) long,
       )
 
-  room-few-answers : refused list ≡ false → length space < 9 * (length list / 3) → room x list space out ≡ false
+  room_few_answers : refused list ≡ false → length space < 9 * (length list / 3) → room x list space out ≡ false
   unfolding room
-  room-few-answers a few = simp (length-answered x list a, lt-leb (9 * (length list / 3)) (length space) few)
+  room_few_answers a few = simp (length-answered x list a, lt-leb (9 * (length list / 3)) (length space) few)
 
-  room-short-out : refused list ≡ false → length out < 28 + 27 * (length list / 3) → room x list space out ≡ false
+  room_short_out : refused list ≡ false → length out < 28 + 27 * (length list / 3) → room x list space out ≡ false
   unfolding room
-  room-short-out a short =
+  room_short_out a short =
       simp (length-page x list a, lt-leb (28 + 27 * (length list / 3)) (length out) short, and_false_right)
 
 -- ---- Printed
@@ -124,8 +124,8 @@ split true one other = one refl
 split false one other = other refl
 
 module _ (x : Settings) (list space out : List ℕ) {is_refused : Bool} (same : is_refused ≡ refused list) where
-  pub printed-refused : {n : ℕ} {out' : List ℕ} → is_refused ≡ true → Written refused_text out n out' → Printed x list space out (printout 7 n) space out'
-  printed-refused stands w =
+  pub printed_refused : {n : ℕ} {out' : List ℕ} → is_refused ≡ true → Written refused_text out n out' → Printed x list space out (printout 7 n) space out'
+  printed_refused stands w =
       let a = sym same ∙ stands in
       record {
         refusal = simp a;
@@ -134,23 +134,23 @@ module _ (x : Settings) (list space out : List ℕ) {is_refused : Bool} (same : 
         text = simp (room-refused x list space out a, page-refused x list a) w.text;
       }
 
-  printed-none : is_refused ≡ false → room x list space out ≡ false → Printed x list space out (printout 8 0) space out
-  printed-none free small = record { refusal = simp (sym same ∙ free, small); count = simp small; answers = simp small; text = simp small }
+  printed_none : is_refused ≡ false → room x list space out ≡ false → Printed x list space out (printout 8 0) space out
+  printed_none free small = record { refusal = simp (sym same ∙ free, small); count = simp small; answers = simp small; text = simp small }
 
-  pub printed-few : is_refused ≡ false → length space < 9 * (length list / 3) → Printed x list space out (printout 8 0) space out
-  printed-few free few = printed-none free (room-few-answers x list space out (sym same ∙ free) few)
+  pub printed_few : is_refused ≡ false → length space < 9 * (length list / 3) → Printed x list space out (printout 8 0) space out
+  printed_few free few = printed_none free (room_few_answers x list space out (sym same ∙ free) few)
 
-  pub printed-short : is_refused ≡ false → length out < 28 + 27 * (length list / 3) → Printed x list space out (printout 8 0) space out
-  printed-short free short = printed-none free (room-short-out x list space out (sym same ∙ free) short)
+  pub printed_short : is_refused ≡ false → length out < 28 + 27 * (length list / 3) → Printed x list space out (printout 8 0) space out
+  printed_short free short = printed_none free (room_short_out x list space out (sym same ∙ free) short)
 
-  pub printed-all : {number n : ℕ} {space' out' : List ℕ} → is_refused ≡ false → 9 * (length list / 3) ≤ length space → 28 + 27 * (length list / 3) ≤ length out →
+  pub printed_all : {number n : ℕ} {space' out' : List ℕ} → is_refused ≡ false → 9 * (length list / 3) ≤ length space → 28 + 27 * (length list / 3) ≤ length out →
       FreshRun x list space space' number →
       (n ≡ 28 + 27 * (length list / 3)) × (out' ≡ over (header ++ lines (length list / 3) space') out) →
       Printed x list space out (printout 0 n) space' out'
   unfolding filled
-  printed-all {space' = space'} free many long ran (count, text) =
+  printed_all {space' = space'} free many long ran (count, text) =
       let a = sym same ∙ free in
-      let large = room-both x list space out a many long in
+      let large = room_both x list space out a many long in
       let all = answered-accepted x list a in
       let nine = length-answered x list a in
       let bytes : space' ≡ over (answered x list) space =

@@ -25,13 +25,13 @@ use Rattle.machine.specs.Kept.{Kept}
 use Rattle.state.specs.Changed.{Changed, KeptChange, KeptWhere}
 use Rattle.state.proofs.Laws.View as stores
 use Rattle.state.proofs.Laws.View.{cleared, set-dropped}
-use Rattle.machine.proofs.Laws.Bits.{nibble-0, nibble-1, nibble-3, nibble-again, high_latches-again, latches_below}
-use Rattle.state.proofs.Laws.Body.{settings_options, tidied, Tidy, tidy-state, state-tidy}
+use Rattle.machine.proofs.Laws.Bits.{nibble_0, nibble_1, nibble_3, nibble-again, high_latches-again, latches_below}
+use Rattle.state.proofs.Laws.Body.{settings_options, tidied, Tidy, tidy_state, state_tidy}
 
 -- ---- Changed
 pub changed : {rule : Machine → Machine} {s s' : List ℕ} → length s ≡ state_length → view s' ≡ rule (view s) → (Tidy s → Tidy s') → Changed rule s s'
 changed {s = s} {s' = s'} long machine tidy =
-    record { machine = machine; bytes = λ e. tidy-state s' (tidy (state-tidy s long e)) }
+    record { machine = machine; bytes = λ e. tidy_state s' (tidy (state_tidy s long e)) }
 
 -- one after the other
 pub chain : {f g : Machine → Machine} {s t u : List ℕ} → Changed f s t → Changed g t u → Changed (λ m. g (f m)) s u
@@ -190,28 +190,28 @@ module _ {s : List ℕ} (long : length s ≡ state_length) where
   stored-mode = stored-cell {k = 0} (omega arith)
 
   -- ---- latches and overlay
-  stored-lowLatches : (a b : Bool) → Changed (lift (low_latched a b)) s (set s 3 (nibble a b false false))
-  stored-lowLatches a b =
-      changed long (stores.set-latches s long (nibble a b false false) ∙ rw (nibble-0 a b false false, nibble-1 a b false false))
+  stored_low_latches : (a b : Bool) → Changed (lift (low_latched a b)) s (set s 3 (nibble a b false false))
+  stored_low_latches a b =
+      changed long (stores.set-latches s long (nibble a b false false) ∙ rw (nibble_0 a b false false, nibble_1 a b false false))
       (tidy_set (fits_latches (latches_below a b)))
 
-  pub stored-highLatches : (a b c : Bool) {v : ℕ} → v ≡ nibble a b false c → Changed (lift (high_latched a b c)) s (set s 62 v)
-  stored-highLatches a b c is_v =
+  pub stored-high_latches : (a b c : Bool) {v : ℕ} → v ≡ nibble a b false c → Changed (lift (high_latched a b c)) s (set s 62 v)
+  stored-high_latches a b c is_v =
       subst (λ (x : ℕ). Changed (lift (high_latched a b c)) s (set s 62 x)) (sym is_v)
       (changed long
-      (stores.set-high_latches s long (nibble a b false c) ∙ rw (nibble-0 a b false c, nibble-1 a b false c, nibble-3 a b false c))
+      (stores.set-high_latches s long (nibble a b false c) ∙ rw (nibble_0 a b false c, nibble_1 a b false c, nibble_3 a b false c))
       (tidy_set (fits_late 2 (high_latches-again a b c))))
 
   -- the latches of P1, and whether D1h may write P22 and P23
-  pub stored-inputLatches : {v : ℕ} → Changed (lift (input_latched v)) s (set s 61 v)
-  stored-inputLatches {v} = changed long (stores.set-input_latches s long v) (tidy_set (fits_late 1 refl))
+  pub stored-input_latches : {v : ℕ} → Changed (lift (input_latched v)) s (set s 61 v)
+  stored-input_latches {v} = changed long (stores.set-input_latches s long v) (tidy_set (fits_late 1 refl))
 
   pub stored-permitted : (on : Bool) {v : ℕ} → v ≡ options_of (public s).settings on → Changed (lift (permitted on)) s (set s 60 v)
   stored-permitted on is_v =
       let x = (public s).settings in
       subst (λ (n : ℕ). Changed (lift (permitted on)) s (set s 60 n)) (sym is_v)
       (changed long
-      (stores.set-permitted s long (options_of x on) (settings_options x on) ∙ rw (nibble-3 x.mouse_lock x.at_mode x.second_set on))
+      (stores.set-permitted s long (options_of x on) (settings_options x on) ∙ rw (nibble_3 x.mouse_lock x.at_mode x.second_set on))
       (tidy_set (fits_late 0 (nibble-again x.mouse_lock x.at_mode x.second_set on))))
 
   -- the transmit time-out
@@ -230,7 +230,7 @@ pub stored_output_latches : {s : List ℕ} → length s ≡ state_length → (a 
     Changed (lift (λ p. high_latched c d e (low_latched a b p))) s (set (set s 3 low) 62 high)
 stored_output_latches {s} long a b c d e {low} {high} is_low is_high =
     subst (λ (n : ℕ). Changed (lift (λ p. high_latched c d e (low_latched a b p))) s (set (set s 3 n) 62 high)) (sym is_low)
-    (chain (stored-lowLatches long a b) (stored-highLatches (length-set s 3 _ ∙ long) c d e is_high))
+    (chain (stored_low_latches long a b) (stored-high_latches (length-set s 3 _ ∙ long) c d e is_high))
 
 -- as D1h writes them
 pub stored-latched : {s : List ℕ} → length s ≡ state_length → (v : ℕ) {high all c d e : Bool} {low upper : ℕ} →
@@ -263,33 +263,33 @@ module _ {s : List ℕ} {f : ℕ} (long : length s ≡ state_length) where
   pub stored-emptied : Reflagged (flags.with_output false false (flags_of (at s 1))) (at s 1) f → Changed (lift emptied) s (set s 1 f)
   stored-emptied h = changed long (stores.set-flags s long f _ h.flags) (tidy_flags h)
 
-  pub stored-dataWritten : Reflagged (flags.with_command false (flags_of (at s 1))) (at s 1) f → Changed (lift data_written) s (set s 1 f)
-  stored-dataWritten h = changed long (stores.set-flags s long f _ h.flags) (tidy_flags h)
+  pub stored-data_written : Reflagged (flags.with_command false (flags_of (at s 1))) (at s 1) f → Changed (lift data_written) s (set s 1 f)
+  stored-data_written h = changed long (stores.set-flags s long f _ h.flags) (tidy_flags h)
 
-  stored-errorFlags : {t e : Bool} → Reflagged (flags.with_errors t e (flags_of (at s 1))) (at s 1) f →
+  stored_error_flags : {t e : Bool} → Reflagged (flags.with_errors t e (flags_of (at s 1))) (at s 1) f →
       Changed (lift (λ p. with_errors p (record { terr = t; perr = e; ttim = p.errors.ttim }))) s (set s 1 f)
-  stored-errorFlags h = changed long (stores.set-flags s long f _ h.flags) (tidy_flags h)
+  stored_error_flags h = changed long (stores.set-flags s long f _ h.flags) (tidy_flags h)
 
   pub stored-errors : {t e : Bool} → Reflagged (flags.with_errors t e (flags_of (at s 1))) (at s 1) f →
       Changed (lift (errors_set t e)) s (set (set s 1 f) 63 0)
-  stored-errors h = chain (stored-errorFlags h) (stored-timeout (length-set s 1 f ∙ long) false)
+  stored-errors h = chain (stored_error_flags h) (stored-timeout (length-set s 1 f ∙ long) false)
 
-  pub stored-notTaken : {apart : Bool} {v : ℕ} → apart ≡ at_mode (public s) → v ≡ weight 1 apart →
+  pub stored-not_taken : {apart : Bool} {v : ℕ} → apart ≡ at_mode (public s) → v ≡ weight 1 apart →
       Reflagged (flags.with_errors (not apart) false (flags_of (at s 1))) (at s 1) f →
       Changed (lift not_taken) s (set (set s 1 f) 63 v)
-  stored-notTaken {apart} is_apart is_bit h =
+  stored-not_taken {apart} is_apart is_bit h =
       subst (λ (x : ℕ). Changed (lift not_taken) s (set (set s 1 f) 63 x)) (sym is_bit)
-      (by_two (stored-errorFlags h) (stored-timeout (length-set s 1 f ∙ long) apart) (rw is_apart))
+      (by_two (stored_error_flags h) (stored-timeout (length-set s 1 f ∙ long) apart) (rw is_apart))
 
   pub stored-breaks : {b : Bool} → Reflagged (flags.with_breaks b (flags_of (at s 1))) (at s 1) f → Changed (lift (breaking b)) s (set s 1 f)
   stored-breaks h = changed long (stores.set-flags s long f _ h.flags) (tidy_flags h)
 
-  pub stored-lockSet : Reflagged (flags.with_locked true (flags_of (at s 1))) (at s 1) f → Changed lock_set s (set (set s 1 f) 11 0)
-  stored-lockSet h =
+  pub stored-lock_set : Reflagged (flags.with_locked true (flags_of (at s 1))) (at s 1) f → Changed lock_set s (set (set s 1 f) 11 0)
+  stored-lock_set h =
       changed long (stores.set-lock_set s long f _ h.flags) (λ t. tidy_set (fits_free 11 refl) (tidy_flags h t))
 
-  pub stored-lockCleared : Reflagged (flags.with_locked false (flags_of (at s 1))) (at s 1) f → Changed lock_cleared s (set (set s 1 f) 11 0)
-  stored-lockCleared h =
+  pub stored-lock_cleared : Reflagged (flags.with_locked false (flags_of (at s 1))) (at s 1) f → Changed lock_cleared s (set (set s 1 f) 11 0)
+  stored-lock_cleared h =
       changed long (stores.set-lock_set s long f _ h.flags) (λ t. tidy_set (fits_free 11 refl) (tidy_flags h t))
 
   -- a command written: flags, pending code, cell, and no overlay
@@ -325,33 +325,33 @@ module _ {s : List ℕ} (long : length s ≡ state_length) where
 
 -- dropped: its sixteen bytes are 0
 module _ (s : List ℕ) where
-  length-cleared : (n : ℕ) → length (cleared n s) ≡ length s
-  length-cleared zero = refl
-  length-cleared (suc n) = length-set (cleared n s) (12 + n) 0 ∙ length-cleared n
+  length_cleared : (n : ℕ) → length (cleared n s) ≡ length s
+  length_cleared zero = refl
+  length_cleared (suc n) = length-set (cleared n s) (12 + n) 0 ∙ length_cleared n
 
-  cleared-other : (n j : ℕ) → ((k : ℕ) → k < n → j ≡ 12 + k → ⊥) → at (cleared n s) j ≡ at s j
-  cleared-other zero j apart = refl
-  cleared-other (suc n) j apart =
-      get_or-set_other (cleared n s) (12 + n) j 0 0 (apart n (omega arith)) ∙ cleared-other n j (λ k h. apart k (omega arith))
+  cleared_other : (n j : ℕ) → ((k : ℕ) → k < n → j ≡ 12 + k → ⊥) → at (cleared n s) j ≡ at s j
+  cleared_other zero j apart = refl
+  cleared_other (suc n) j apart =
+      get_or-set_other (cleared n s) (12 + n) j 0 0 (apart n (omega arith)) ∙ cleared_other n j (λ k h. apart k (omega arith))
 
-  cleared-zero : (n k : ℕ) → 12 + n ≤ length s → k < n → at (cleared n s) (12 + k) ≡ 0
-  cleared-zero zero k room h = absurd (not-suc-le-zero h)
-  cleared-zero (suc n) k room h =
+  cleared_zero : (n k : ℕ) → 12 + n ≤ length s → k < n → at (cleared n s) (12 + k) ≡ 0
+  cleared_zero zero k room h = absurd (not-suc-le-zero h)
+  cleared_zero (suc n) k room h =
       split (eqb k n)
       (λ e.
       ap (λ (j : ℕ). at (set (cleared n s) (12 + n) 0) (12 + j)) (eqb-true k n e)
-      ∙ get_or-set_same (cleared n s) (12 + n) 0 0 (omega (arith, length-cleared n)))
+      ∙ get_or-set_same (cleared n s) (12 + n) 0 0 (omega (arith, length_cleared n)))
       (λ e.
       get_or-set_other (cleared n s) (12 + n) (12 + k) 0 0 (λ same. eqb-false k n e (omega arith))
-      ∙ cleared-zero n k (omega arith) (omega (arith, eqb-false k n e)))
+      ∙ cleared_zero n k (omega arith) (omega (arith, eqb-false k n e)))
 
   pub stored-dropped : length s ≡ state_length → Changed dropped s (set (cleared 16 s) 10 0)
   stored-dropped long =
       changed long (set-dropped s long)
       (λ t.
-      let long' : length (cleared 16 s) ≡ state_length = length-cleared 16 ∙ long in
+      let long' : length (cleared 16 s) ≡ state_length = length_cleared 16 ∙ long in
       let later : (j : ℕ) → (j ≡ 10 → ⊥) → ((k : ℕ) → k < 16 → j ≡ 12 + k → ⊥) → at (set (cleared 16 s) 10 0) j ≡ at s j =
-      λ j a b. get_or-set_other (cleared 16 s) 10 j 0 0 a ∙ cleared-other 16 j b in
+      λ j a b. get_or-set_other (cleared 16 s) 10 j 0 0 a ∙ cleared_other 16 j b in
       record {
         long = length-set (cleared 16 s) 10 0 ∙ long';
         flags = rw (later 1 (λ e. omega arith) (λ k h e. omega arith)) t.flags;
@@ -359,6 +359,6 @@ module _ (s : List ℕ) where
         overlay = rw (later 6 (λ e. omega arith) (λ k h e. omega arith)) t.overlay;
         size = rw (get_or-set_same (cleared 16 s) 10 0 0 (omega (arith, long'))) (omega arith);
         rest = λ k low high.
-            get_or-set_other (cleared 16 s) 10 (12 + k) 0 0 (λ e. omega arith) ∙ cleared-zero 16 k (omega arith) high;
+            get_or-set_other (cleared 16 s) 10 (12 + k) 0 0 (λ e. omega arith) ∙ cleared_zero 16 k (omega arith) high;
         beyond = λ k. rw (later (60 + k) (λ e. omega arith) (λ j h e. omega arith)) (t.beyond k);
       })

@@ -69,10 +69,10 @@ code_read s k h =
 
 -- a byte of a load, by that count
 module _ (s : List ℕ) (v : ℕ) (long : length s ≡ state_length) (some : v ≡ 0 → ⊥) where
-  pub loadByte-full : 16 ≤ get_or s 10 0 → dropped (lift settled (view s)) ≡ load_byte v (view s)
+  pub load_byte-full : 16 ≤ get_or s 10 0 → dropped (lift settled (view s)) ≡ load_byte v (view s)
   unfolding load_byte
-  loadByte-full h = simp (ne_eqb _ _ some, code-full (get_or s 10 0) (take 16 (drop 12 s)) (code_long s long) h)
+  load_byte-full h = simp (ne_eqb _ _ some, code-full (get_or s 10 0) (take 16 (drop 12 s)) (code_long s long) h)
 
-  pub loadByte-room : get_or s 10 0 < 16 → appended v (view s) ≡ load_byte v (view s)
+  pub load_byte-room : get_or s 10 0 < 16 → appended v (view s) ≡ load_byte v (view s)
   unfolding load_byte
-  loadByte-room h = simp (ne_eqb _ _ some, code-room (get_or s 10 0) (take 16 (drop 12 s)) (code_long s long) h)
+  load_byte-room h = simp (ne_eqb _ _ some, code-room (get_or s 10 0) (take 16 (drop 12 s)) (code_long s long) h)

@@ -7,7 +7,7 @@ use borrow.Author.Tests.{eqb-true}
 use Rattle.translation.proofs.Tests.{and_true, every, every_below}
 use Rattle.translation.specs.Bits.{has, weight}
 use Rattle.machine.specs.State.{Public}
-use Rattle.machine.proofs.Laws.Bits.{lines-0, lines-1, lines-2, lines-3, lines-4, lines-5, lines-6, lines-below}
+use Rattle.machine.proofs.Laws.Bits.{lines_0, lines_1, lines_2, lines_3, lines_4, lines_5, lines_6, lines_below}
 use Rattle.state.specs.View.{flags}
 use Rattle.state.specs.Flags.{Flags, flags_of, with_output, with_command, with_errors, with_breaks, with_locked, Reflagged}
 
@@ -97,25 +97,25 @@ lock_flags false = by_test (λ f. f / 128 * 128 + f % 64 + 0) (with_locked false
 -- ---- the byte that a machine has of them
 module _ (p : Public) where
   pub flags_full : has (flags p) 0 ≡ p.output.full
-  flags_full = lines-0 _ _ _ _ _ _ _ _
+  flags_full = lines_0 _ _ _ _ _ _ _ _
 
   pub flags-mouse : has (flags p) 1 ≡ p.output.mouse
-  flags-mouse = lines-1 _ _ _ _ _ _ _ _
+  flags-mouse = lines_1 _ _ _ _ _ _ _ _
 
   pub flags-command : has (flags p) 2 ≡ p.host.command
-  flags-command = lines-2 _ _ _ _ _ _ _ _
+  flags-command = lines_2 _ _ _ _ _ _ _ _
 
   pub flags-terr : has (flags p) 3 ≡ p.errors.terr
-  flags-terr = lines-3 _ _ _ _ _ _ _ _
+  flags-terr = lines_3 _ _ _ _ _ _ _ _
 
   pub flags-perr : has (flags p) 4 ≡ p.errors.perr
-  flags-perr = lines-4 _ _ _ _ _ _ _ _
+  flags-perr = lines_4 _ _ _ _ _ _ _ _
 
   pub flags-breaks : has (flags p) 5 ≡ p.breaks
-  flags-breaks = lines-5 _ _ _ _ _ _ _ _
+  flags-breaks = lines_5 _ _ _ _ _ _ _ _
 
   pub flags-locked : has (flags p) 6 ≡ p.locked
-  flags-locked = lines-6 _ _ _ _ _ _ _ _
+  flags-locked = lines_6 _ _ _ _ _ _ _ _
 
-  pub flags-below : flags p < 128
-  flags-below = lines-below _ _ _ _ _ _ _ _ refl
+  pub flags_below : flags p < 128
+  flags_below = lines_below _ _ _ _ _ _ _ _ refl

@@ -1,7 +1,7 @@
 -- The lock code in the state against the keys typed: what the program compares there, as cases of the definitions. Assumes nothing.
 use Prim.Native.Nat.{ℕ, zero, suc, ◌+◌, ◌-◌, ◌≤◌, ◌<◌}
 use mathlib.Core.Path.{◌≡◌, refl, sym, ap, ◌∙◌, subst}
-use mathlib.Core.Bool.{Bool, true, false, cond, ◌&&◌, and_false}
+use mathlib.Core.Bool.{Bool, true, false, cond, ◌&&◌, and-false}
 use mathlib.Core.List.{List, ◌∷◌}
 use native.Mathlib.Omega.{arith}
 use lib.ListN.{length, take, get_or}
@@ -9,7 +9,7 @@ use lib.Seq.{take_all, take-length}
 use lib.Dec.{eqb}
 use borrow.Author.Tests.{eq-eqb, ne_eqb}
 use Rattle.machine.specs.Lock.{end_with, longest, begun}
-use Rattle.machine.proofs.Laws.Lock.{ends-none, ends_next, begun-next, begun-itself, longest-cut, next-longer}
+use Rattle.machine.proofs.Laws.Lock.{ends-none, ends_next, begun-next, begun_itself, longest_cut, next_longer}
 use Rattle.state.specs.View.{code_of}
 use Rattle.state.proofs.Laws.Code.{code_read}
 
@@ -62,23 +62,23 @@ module _ (s : List ℕ) where
     longest-other f = sym (longest-next ∙ rw (ne_eqb _ _ f))
 
     pub longest-shorter : {t : Bool} → t ≡ end_with keys (take j code) → t ≡ false → longest code j (x ∷ keys) ≡ longest code n (x ∷ keys)
-    longest-shorter is_t t = sym (longest-next ∙ simp (sym is_t ∙ t, and_false))
+    longest-shorter is_t t = sym (longest-next ∙ simp (sym is_t ∙ t, and-false))
 
   -- the key behind a position within the code, and behind one that is not
   module _ (x k : ℕ) (within : k < length code) where
     one_more : longest code (suc k) (x ∷ begun code k) ≡ longest code (length code) (x ∷ begun code k)
-    one_more = sym (longest-cut code _ (suc k) _ within (next-longer code x k))
+    one_more = sym (longest_cut code _ (suc k) _ within (next_longer code x k))
 
     pub reach-next : x ≡ get_or s (12 + k) 0 → k + 1 ≡ longest code (length code) (x ∷ begun code k)
     reach-next e =
         let next : k + 1 ≡ suc k = omega arith in
-        next ∙ longest-found (begun code k) x (suc k) k refl within e (sym (begun-itself code k (omega arith))) refl ∙ one_more
+        next ∙ longest-found (begun code k) x (suc k) k refl within e (sym (begun_itself code k (omega arith))) refl ∙ one_more
 
     pub reach-back : (x ≡ get_or s (12 + k) 0 → ⊥) → longest code k (x ∷ begun code k) ≡ longest code (length code) (x ∷ begun code k)
     reach-back f = longest-other (begun code k) x (suc k) k refl within f ∙ one_more
 
-  pub reach-past : (x k n : ℕ) → n ≡ length code → n ≤ k →
+  pub reach_past : (x k n : ℕ) → n ≡ length code → n ≤ k →
       longest code n (x ∷ begun code n) ≡ longest code (length code) (x ∷ begun code k)
   unfolding begun
-  reach-past x k n whole h =
+  reach_past x k n whole h =
       rw (whole, take-length code, take_all k code (omega arith))

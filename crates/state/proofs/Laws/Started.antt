@@ -23,8 +23,8 @@ module _ (options : ℕ) {version : ℕ} {table : List ℕ} (low : version < 256
       record { bytes = stored; machine = seen; kept = subst Kept (sym seen) (fresh_kept (settings_of options version table) (low, none, bytes)) }
 
   -- with the built-in table
-  pub started-builtIn : {s : List ℕ} → table ≡ built_in → Stored (settings_of options version table) s → Started (settings_of options version built_in) s
-  started-builtIn {s} same stored =
+  pub started-built_in : {s : List ℕ} → table ≡ built_in → Stored (settings_of options version table) s → Started (settings_of options version built_in) s
+  started-built_in {s} same stored =
       subst (λ (t : List ℕ). Started (settings_of options version t) s) same
       (started (ap table_refusal same ∙ built_in-passes) (subst (λ (t : List ℕ). (b : ℕ) → get_or t b 0 < 256) (sym same) built_in_below) stored)
 

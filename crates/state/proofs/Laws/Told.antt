@@ -11,7 +11,7 @@ use Rattle.state.specs.View.{view, public}
 use Rattle.state.specs.Changed.{Changed}
 use Rattle.state.specs.Told.{EventTold}
 use Rattle.state.specs.declared.told.Told.{Told}
-use Rattle.machine.proofs.Laws.Events.{value-byte, step-refused, step-accepted, reply-refused, reply-accepted, accept-data, accept-command}
+use Rattle.machine.proofs.Laws.Events.{value-byte, step-refused, step-accepted, reply-refused, reply-accepted, accept_data, accept-command}
 use Rattle.machine.proofs.Laws.Kept.{keeps}
 use Rattle.state.proofs.Laws.Changed.{by_rule, untouched}
 
@@ -65,36 +65,36 @@ told_kind told same = rw same told
 
 -- ---- one of the kinds 4 to 8, where an accepted one and a refused one meet before the answer
 module _ {s after : List ℕ} {e : Event} {t : Told} {n : ℕ} (checked : n ≡ refusal (public s) e) (told : Quiet t n) where
-  pub met-accepted : {s' : List ℕ} → n ≡ 0 → (0 ≡ byte_read (public s) e.kind) × (0 ≡ old_mark (public s) e.kind) × (0 ≡ pulse (public s) e) →
+  pub met_accepted : {s' : List ℕ} → n ≡ 0 → (0 ≡ byte_read (public s) e.kind) × (0 ≡ old_mark (public s) e.kind) × (0 ≡ pulse (public s) e) →
       Changed (λ m. accept m e) s s' →
       after ≡ s' →
       EventTold s e after t
-  met-accepted none noted done same =
+  met_accepted none noted done same =
       subst (λ (u : List ℕ). EventTold s e u t) (sym same) (told_quiet checked none told noted done)
 
-  pub met-refused : (n ≡ 0 → ⊥) → after ≡ s → EventTold s e after t
-  met-refused stands same = subst (λ (u : List ℕ). EventTold s e u t) (sym same) (told_refused checked stands told)
+  pub met_refused : (n ≡ 0 → ⊥) → after ≡ s → EventTold s e after t
+  met_refused stands same = subst (λ (u : List ℕ). EventTold s e u t) (sym same) (told_refused checked stands told)
 
 pub met : {A B : Type 0} {s after : List ℕ} {e : Event} {t : Told} → A ⊎ B → (A → EventTold s e after t) → (B → EventTold s e after t) → EventTold s e after t
 met came one other = ⊎_elim one other came
 
 -- ---- a write, whose value is its low byte
 module _ {s : List ℕ} {low high n : ℕ} where
-  pub told-data : {s' : List ℕ} {t : Told} → n ≡ refusal (public s) (event 1 low high) → n ≡ 0 →
+  pub told_data : {s' : List ℕ} {t : Told} → n ≡ refusal (public s) (event 1 low high) → n ≡ 0 →
       Quiet t 0 →
       Changed (write_data low) s s' →
       EventTold s (event 1 low high) s' t
-  told-data same none (is_number, is_read, is_old, is_pulse) done =
+  told_data same none (is_number, is_read, is_old, is_pulse) done =
       let e = event 1 low high in
       let byte : value e ≡ low = value-byte (public s) e (sym same ∙ none) refl in
       told_quiet same none (is_number ∙ sym none, is_read, is_old, is_pulse) (refl, refl, refl)
-      (by_rule done (sym (accept-data (view s) e refl ∙ ap (λ (v : ℕ). write_data v (view s)) byte)))
+      (by_rule done (sym (accept_data (view s) e refl ∙ ap (λ (v : ℕ). write_data v (view s)) byte)))
 
-  pub told-command : {s' : List ℕ} {t : Told} → n ≡ refusal (public s) (event 3 low high) → n ≡ 0 →
+  pub told_command : {s' : List ℕ} {t : Told} → n ≡ refusal (public s) (event 3 low high) → n ≡ 0 →
       (t.refusal ≡ 0) × (t.read ≡ 0) × (t.old ≡ 0) × (t.pulse ≡ pulse_of (public s).settings low) →
       Changed (write_command low) s s' →
       EventTold s (event 3 low high) s' t
-  told-command same none (is_number, is_read, is_old, is_pulse) done =
+  told_command same none (is_number, is_read, is_old, is_pulse) done =
       let e = event 3 low high in
       let byte : value e ≡ low = value-byte (public s) e (sym same ∙ none) refl in
       told_accepted same none (is_number, is_read, is_old, is_pulse ∙ ap (pulse_of (public s).settings) (sym byte))

@@ -18,30 +18,30 @@ abbrev Replied : ℕ → Mouse → Mouse → List ℕ → Type 0
 Replied b m next bytes = (next ≡ received b m) × (bytes ≡ reply_bytes b m)
 
 module _ {b : ℕ} (m : Mouse) where
-  pub replied-EB : {next : Mouse} {h x y : ℕ} → b ≡ 0xEB → next ≡ without_movement m → (h ∷ x ∷ y ∷ []) ≡ packet m → Replied b m next (0xFA ∷ h ∷ x ∷ y ∷ [])
+  pub replied_EB : {next : Mouse} {h x y : ℕ} → b ≡ 0xEB → next ≡ without_movement m → (h ∷ x ∷ y ∷ []) ≡ packet m → Replied b m next (0xFA ∷ h ∷ x ∷ y ∷ [])
   unfolding reply_bytes received
-  replied-EB byte after made = rw byte (after, ap (λ (l : List ℕ). 0xFA ∷ l) made)
+  replied_EB byte after made = rw byte (after, ap (λ (l : List ℕ). 0xFA ∷ l) made)
 
-  pub replied-F2 : b ≡ 0xF2 → Replied b m m (0xFA ∷ 0x00 ∷ [])
+  pub replied_F2 : b ≡ 0xF2 → Replied b m m (0xFA ∷ 0x00 ∷ [])
   unfolding reply_bytes received
-  replied-F2 byte = rw byte (refl, refl)
+  replied_F2 byte = rw byte (refl, refl)
 
-  pub replied-F4 : {next : Mouse} → b ≡ 0xF4 → next ≡ with_reporting true m → Replied b m next (0xFA ∷ [])
+  pub replied_F4 : {next : Mouse} → b ≡ 0xF4 → next ≡ with_reporting true m → Replied b m next (0xFA ∷ [])
   unfolding reply_bytes received
-  replied-F4 byte after = rw byte (after, refl)
+  replied_F4 byte after = rw byte (after, refl)
 
-  pub replied-F5 : {next : Mouse} → b ≡ 0xF5 → next ≡ with_reporting false m → Replied b m next (0xFA ∷ [])
+  pub replied_F5 : {next : Mouse} → b ≡ 0xF5 → next ≡ with_reporting false m → Replied b m next (0xFA ∷ [])
   unfolding reply_bytes received
-  replied-F5 byte after = rw byte (after, refl)
+  replied_F5 byte after = rw byte (after, refl)
 
-  pub replied-FF : {next : Mouse} → b ≡ 0xFF → next ≡ without_movement (with_reporting false m) → Replied b m next (0xFA ∷ 0xAA ∷ 0x00 ∷ [])
+  pub replied_FF : {next : Mouse} → b ≡ 0xFF → next ≡ without_movement (with_reporting false m) → Replied b m next (0xFA ∷ 0xAA ∷ 0x00 ∷ [])
   unfolding reply_bytes received
-  replied-FF byte after = rw byte (after, refl)
+  replied_FF byte after = rw byte (after, refl)
 
   -- every other byte
-  pub replied-other : (b ≡ 0xEB → ⊥) → (b ≡ 0xF2 → ⊥) → (b ≡ 0xF4 → ⊥) → (b ≡ 0xF5 → ⊥) → (b ≡ 0xFF → ⊥) → Replied b m m (0xFE ∷ [])
+  pub replied_other : (b ≡ 0xEB → ⊥) → (b ≡ 0xF2 → ⊥) → (b ≡ 0xF4 → ⊥) → (b ≡ 0xF5 → ⊥) → (b ≡ 0xFF → ⊥) → Replied b m m (0xFE ∷ [])
   unfolding reply_bytes received
-  replied-other eb f2 f4 f5 ff =
+  replied_other eb f2 f4 f5 ff =
       simp (ne_eqb _ _ eb, ne_eqb _ _ f2, ne_eqb _ _ f4, ne_eqb _ _ f5, ne_eqb _ _ ff) (refl, refl)
 
 -- ---- a report
@@ -57,8 +57,8 @@ module _ (m : Mouse) where
   pub reported-on : {next : Mouse} {h x y : ℕ} → m.reporting ≡ true → next ≡ without_movement m → (h ∷ x ∷ y ∷ []) ≡ packet m → Reported m next (h ∷ x ∷ y ∷ [])
   reported-on on after made = (after ∙ sym (chosen true on).0, made ∙ sym (chosen true on).1)
 
-  pub reported-off : m.reporting ≡ false → Reported m m []
-  reported-off off = (sym (chosen false off).0, sym (chosen false off).1)
+  pub reported_off : m.reporting ≡ false → Reported m m []
+  reported_off off = (sym (chosen false off).0, sym (chosen false off).1)
 
 -- ---- bytes
 below_cons : (b : ℕ) (l : List ℕ) → b < 256 → Below 256 l → Below 256 (b ∷ l)

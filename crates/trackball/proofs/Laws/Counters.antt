@@ -2,7 +2,7 @@
 -- the number. Integers are taken apart by their two cases, since omega reads natural numbers alone. Assumes nothing.
 use Prim.Native.Nat.{ℕ, suc, ◌+◌, ◌-◌, ◌%◌, ◌≤◌, ◌<◌, ◌^◌}
 use mathlib.Core.Path.{◌≡◌, refl, sym, subst, ap, ap₂, ◌∙◌}
-use mathlib.Core.Bool.{Bool, true, false, cond, ◌||◌, or-true, or_false}
+use mathlib.Core.Bool.{Bool, true, false, cond, ◌||◌, or-true, or-false}
 use native.Mathlib.Omega.{arith}
 use lib.Dec.{T, ltb}
 use lib.IntN.{ℤ, pos, negsuc, nat_abs, sub_ℕ, ◌+ℤ◌}
@@ -64,27 +64,27 @@ module _ {sum step : ℤ} (p : SFits w16 sum) (q : SFits w16 step) where
   abbrev total : ℤ
   total = sum +ℤ step
 
-  widened-sum : widened sum +ℤ widened step ≡ total
-  widened-sum = ap₂ (λ (a b : ℤ). a +ℤ b) (widened_is sum p) (widened_is step q)
+  widened_sum : widened sum +ℤ widened step ≡ total
+  widened_sum = ap₂ (λ (a b : ℤ). a +ℤ b) (widened_is sum p) (widened_is step q)
 
-  pub widened-fits : SFits w32 (widened sum +ℤ widened step)
-  widened-fits = subst (SFits w32) (sym widened-sum) (sum_fits p q)
+  pub widened_fits : SFits w32 (widened sum +ℤ widened step)
+  widened_fits = subst (SFits w32) (sym widened_sum) (sum_fits p q)
 
   -- the sum as the machine reads it
   abbrev pub added : ℤ
   added = to_z w32 (of_z w32 (widened sum +ℤ widened step))
 
   added_is : added ≡ total
-  added_is = ap (λ (z : ℤ). to_z w32 (of_z w32 z)) widened-sum ∙ to_z-of_z w32 total (sum_fits p q)
+  added_is = ap (λ (z : ℤ). to_z w32 (of_z w32 z)) widened_sum ∙ to_z-of_z w32 total (sum_fits p q)
 
   tested_low : {t : Bool} → lt_z added lowest ≡ t → lt_z total lowest ≡ t
   tested_low {t} h = subst (λ (z : ℤ). lt_z z lowest ≡ t) added_is h
 
-  tested-high : {t : Bool} → lt_z highest added ≡ t → lt_z highest total ≡ t
-  tested-high {t} h = subst (λ (z : ℤ). lt_z highest z ≡ t) added_is h
+  tested_high : {t : Bool} → lt_z highest added ≡ t → lt_z highest total ≡ t
+  tested_high {t} h = subst (λ (z : ℤ). lt_z highest z ≡ t) added_is h
 
-  pub kept-fits : lt_z added lowest ≡ false → lt_z highest added ≡ false → SFits w16 added
-  kept-fits low high = subst (SFits w16) (sym added_is) (within_fits total (tested_low low) (tested-high high))
+  pub kept_fits : lt_z added lowest ≡ false → lt_z highest added ≡ false → SFits w16 added
+  kept_fits low high = subst (SFits w16) (sym added_is) (within_fits total (tested_low low) (tested_high high))
 
   abbrev counter : Bool → Counter
   counter o = record { sum = sum; overflow = o }
@@ -95,15 +95,15 @@ module _ {sum step : ℤ} (p : SFits w16 sum) (q : SFits w16 step) where
 
   pub stepped-high : (o : Bool) → lt_z added lowest ≡ false → lt_z highest added ≡ true → record { sum = highest; overflow = true } ≡ stepped step (counter o)
   unfolding stepped held beyond
-  stepped-high o low high = simp (tested_low low, tested-high high) (simp (or-true o))
+  stepped-high o low high = simp (tested_low low, tested_high high) (simp (or-true o))
 
   pub stepped_within : (o : Bool) → lt_z added lowest ≡ false → lt_z highest added ≡ false → record { sum = read added; overflow = o } ≡ stepped step (counter o)
   unfolding stepped held beyond
   stepped_within o low high =
       let l : lt_z total lowest ≡ false = tested_low low in
-      let h : lt_z highest total ≡ false = tested-high high in
+      let h : lt_z highest total ≡ false = tested_high high in
       let same : read added ≡ total = ap read added_is ∙ to_z-of_z w16 total (within_fits total l h) in
-      simp (same, l, h) (simp (or_false o))
+      simp (same, l, h) (simp (or-false o))
 
 -- ---- complement
 
@@ -135,15 +135,15 @@ module _ (z : ℤ) (p : SFits w16 z) where
   pub up_fits : SFits w32 (widened z +ℤ pos 65536)
   up_fits = subst (SFits w32) (sym up_is) up_small
 
-  up-read : to_z w32 (of_z w32 (widened z +ℤ pos 65536)) ≡ pos (raised z)
-  up-read = ap (λ (y : ℤ). to_z w32 (of_z w32 y)) up_is ∙ to_z-of_z w32 (pos (raised z)) up_small
+  up_read : to_z w32 (of_z w32 (widened z +ℤ pos 65536)) ≡ pos (raised z)
+  up_read = ap (λ (y : ℤ). to_z w32 (of_z w32 y)) up_is ∙ to_z-of_z w32 (pos (raised z)) up_small
 
-  pub up-positive : T (non_neg (to_z w32 (of_z w32 (widened z +ℤ pos 65536)))) × Fits w32 (nat_abs (to_z w32 (of_z w32 (widened z +ℤ pos 65536))))
-  up-positive =
-      subst (λ (y : ℤ). T (non_neg y) × Fits w32 (nat_abs y)) (sym up-read) (tt, record { fits = omega (arith, raised_below z p) })
+  pub up_positive : T (non_neg (to_z w32 (of_z w32 (widened z +ℤ pos 65536)))) × Fits w32 (nat_abs (to_z w32 (of_z w32 (widened z +ℤ pos 65536))))
+  up_positive =
+      subst (λ (y : ℤ). T (non_neg y) × Fits w32 (nat_abs y)) (sym up_read) (tt, record { fits = omega (arith, raised_below z p) })
 
-  pub up-complement : nat_abs (to_z w32 (of_z w32 (widened z +ℤ pos 65536))) % 65536 ≡ complement z
-  up-complement = ap (λ (y : ℤ). nat_abs y % 65536) up-read ∙ raised_complement z p
+  pub up_complement : nat_abs (to_z w32 (of_z w32 (widened z +ℤ pos 65536))) % 65536 ≡ complement z
+  up_complement = ap (λ (y : ℤ). nat_abs y % 65536) up_read ∙ raised_complement z p
 
 pub complement_below : (z : ℤ) → complement z < 65536
 unfolding complement

@@ -37,25 +37,25 @@ module _ (n : ℕ) (fits : n < 65536) where
   pub low_read : n < 32768 → read (to_z w32 n) ≡ signed n
   low_read h = ap read wide_is ∙ to_z-of_z w16 (pos n) (record { sfits = omega arith }) ∙ sym (signed_low n h)
 
-  less-is : to_z w32 n -ℤ pos 65536 ≡ negsuc (65535 - n)
-  less-is =
+  less_is : to_z w32 n -ℤ pos 65536 ≡ negsuc (65535 - n)
+  less_is =
       let same : 65536 - suc n ≡ 65535 - n = omega arith in
       ap (λ (z : ℤ). z -ℤ pos 65536) wide_is ∙ ap (λ (b : Bool). cond b (negsuc (65536 - suc n)) (pos (n - 65536))) (lt-ltb n 65536 fits) ∙ ap negsuc same
 
   negative_fits : 32768 ≤ n → SFits w16 (negsuc (65535 - n))
   negative_fits h = record { sfits = omega arith }
 
-  pub less-fits : SFits w32 (to_z w32 n -ℤ pos 65536)
-  less-fits = subst (SFits w32) (sym less-is) (record { sfits = omega arith })
+  pub less_fits : SFits w32 (to_z w32 n -ℤ pos 65536)
+  less_fits = subst (SFits w32) (sym less_is) (record { sfits = omega arith })
 
-  less-read : to_z w32 (of_z w32 (to_z w32 n -ℤ pos 65536)) ≡ negsuc (65535 - n)
-  less-read = ap (λ (z : ℤ). to_z w32 (of_z w32 z)) less-is ∙ to_z-of_z w32 (negsuc (65535 - n)) (record { sfits = omega arith })
+  less_read : to_z w32 (of_z w32 (to_z w32 n -ℤ pos 65536)) ≡ negsuc (65535 - n)
+  less_read = ap (λ (z : ℤ). to_z w32 (of_z w32 z)) less_is ∙ to_z-of_z w32 (negsuc (65535 - n)) (record { sfits = omega arith })
 
   pub high_fits : 32768 ≤ n → SFits w16 (to_z w32 (of_z w32 (to_z w32 n -ℤ pos 65536)))
-  high_fits h = subst (SFits w16) (sym less-read) (negative_fits h)
+  high_fits h = subst (SFits w16) (sym less_read) (negative_fits h)
 
   pub high_read : 32768 ≤ n → read (to_z w32 (of_z w32 (to_z w32 n -ℤ pos 65536))) ≡ signed n
-  high_read h = ap read less-read ∙ to_z-of_z w16 (negsuc (65535 - n)) (negative_fits h) ∙ sym (signed_high n h)
+  high_read h = ap read less_read ∙ to_z-of_z w16 (negsuc (65535 - n)) (negative_fits h) ∙ sym (signed_high n h)
 
 -- ---- bytes_of, mouse_of
 

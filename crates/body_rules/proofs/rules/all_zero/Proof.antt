@@ -7,7 +7,7 @@ use native.Mathlib.Omega.{arith}
 use lib.ListN.{length, drop}
 use borrow.Author.Tests.{eq-eqb, ne_eqb}
 use Rattle.body_rules.specs.Rules.{every, is_zero}
-use Rattle.body_rules.proofs.Laws.Rules.{every-passed, every-failed, every-end}
+use Rattle.body_rules.proofs.Laws.Rules.{every-passed, every_failed, every_end}
 use Rattle.body_rules.proofs.rules.all_zero.Statement.{statement}
 use Rattle.body_rules.proofs.rules.all_zero.Tie as tie
 
@@ -27,7 +27,7 @@ returns : tie.Need-returns invariant-loop decreases-loop
 returns c =
     let head = c.before.before.before in
     let bytes = head.before.args.bytes.now in
-    sym (every-failed is_zero bytes head.loop.i (omega arith) (ne_eqb _ 0 c.if1.true)) ∙ head.loop.invariant.1
+    sym (every_failed is_zero bytes head.loop.i (omega arith) (ne_eqb _ 0 c.if1.true)) ∙ head.loop.invariant.1
 
 add-i : tie.Need-overflow-add-i invariant-loop decreases-loop
 add-i c = omega arith
@@ -43,7 +43,7 @@ loop-again c =
 
 returns-2 : tie.Need-returns-2 invariant-loop decreases-loop
 returns-2 c =
-    sym (every-end is_zero c.before.before.args.bytes.now c.before.loop.i (omega arith)) ∙ c.before.loop.invariant.1
+    sym (every_end is_zero c.before.before.args.bytes.now c.before.loop.i (omega arith)) ∙ c.before.loop.invariant.1
 
 pub all-zero-spec : {M : Type 1} → statement M
 all-zero-spec =

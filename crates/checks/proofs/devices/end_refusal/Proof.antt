@@ -2,7 +2,7 @@
 -- Assumes nothing.
 use borrow.Author.Rules.{rules}
 use native.Mathlib.Omega.{arith}
-use Rattle.machine.proofs.Laws.Events.{ends-high, ends-fit, ends-idle, ends-free}
+use Rattle.machine.proofs.Laws.Events.{ends-high, ends_fit, ends-idle, ends_free}
 use Rattle.checks.proofs.devices.end_refusal.Statement.{statement}
 use Rattle.checks.proofs.devices.end_refusal.Tie as tie
 
@@ -16,10 +16,10 @@ returns : tie.Need-returns
 returns c = ends-high _ _ _ (omega arith)
 
 returns-2 : tie.Need-returns-2
-returns-2 c = ends-fit _ _ _ (omega arith) (search ends-free)
+returns-2 c = ends_fit _ _ _ (omega arith) (search ends_free)
 
 returns-3 : tie.Need-returns-3
-returns-3 c = ends-fit _ _ _ (omega arith) (search ends-idle)
+returns-3 c = ends_fit _ _ _ (omega arith) (search ends-idle)
 
 pub end-refusal-spec : {M : Type 1} → statement M
 end-refusal-spec =

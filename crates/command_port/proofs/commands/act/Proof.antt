@@ -3,7 +3,7 @@
 use borrow.Author.Rules.{rules}
 use Rattle.state.proofs.Laws.Changed.{by_rule}
 use Rattle.command_port.proofs.Laws.{by_set}
-use Rattle.machine.proofs.Laws.Commands.{acts-A4, acts-A5, acts-A6, acts-other}
+use Rattle.machine.proofs.Laws.Commands.{acts_A4, acts_A5, acts_A6, acts-other}
 use Rattle.command_port.proofs.commands.act.Statement.{statement}
 use Rattle.command_port.proofs.commands.act.Tie as tie
 
@@ -20,13 +20,13 @@ plain-command-requires : tie.Need-plain-command-requires
 plain-command-requires c κs = search rules
 
 returns : tie.Need-returns
-returns c = search (by_set, by_rule, acts-A4)
+returns c = search (by_set, by_rule, acts_A4)
 
 returns-2 : tie.Need-returns-2
-returns-2 c = search (by_set, by_rule, acts-A5)
+returns-2 c = search (by_set, by_rule, acts_A5)
 
 returns-3 : tie.Need-returns-3
-returns-3 c = search (by_set, by_rule, acts-A6)
+returns-3 c = search (by_set, by_rule, acts_A6)
 
 returns-4 : tie.Need-returns-4
 returns-4 c =

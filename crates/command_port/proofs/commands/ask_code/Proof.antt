@@ -2,7 +2,7 @@
 -- Assumes nothing.
 use borrow.Author.Rules.{rules}
 use Rattle.state.proofs.Laws.Changed.{by_rule}
-use Rattle.machine.proofs.Laws.Commands.{codeAsked-some, codeAsked-none}
+use Rattle.machine.proofs.Laws.Commands.{code_asked-some, code_asked-none}
 use Rattle.command_port.proofs.commands.ask_code.Statement.{statement}
 use Rattle.command_port.proofs.commands.ask_code.Tie as tie
 
@@ -19,10 +19,10 @@ put-requires-2 : tie.Need-put-requires-2
 put-requires-2 c κs = search rules
 
 returns : tie.Need-returns
-returns c = search (by_rule, codeAsked-some)
+returns c = search (by_rule, code_asked-some)
 
 returns-2 : tie.Need-returns-2
-returns-2 c = search (by_rule, codeAsked-none)
+returns-2 c = search (by_rule, code_asked-none)
 
 pub ask-code-spec : {M : Type 1} → statement M
 ask-code-spec =

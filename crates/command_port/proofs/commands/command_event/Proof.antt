@@ -3,7 +3,7 @@
 use mathlib.Core.Path.{refl}
 use borrow.Author.Rules.{rules}
 use Rattle.state.proofs.Laws.Told.{told_refused}
-use Rattle.command_port.proofs.Laws.{command-done}
+use Rattle.command_port.proofs.Laws.{command_done}
 use Rattle.command_port.proofs.commands.command_event.Statement.{statement}
 use Rattle.command_port.proofs.commands.command_event.Tie as tie
 
@@ -34,7 +34,7 @@ returns-2 c =
     let decoded = written.before.before in
     let cut = decoded.before.before in
     let tested = cut.before.before in
-    command-done cut.cut_load.ensures decoded.decode.ensures written.command-written.ensures
+    command_done cut.cut_load.ensures decoded.decode.ensures written.command-written.ensures
     tested.before.write-refusal.ensures.1 tested.if1.false (refl, refl, refl, refl) c.act.ensures
 
 pub command-event-spec : {M : Type 1} → statement M

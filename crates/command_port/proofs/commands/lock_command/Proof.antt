@@ -2,7 +2,7 @@
 -- Assumes nothing.
 use borrow.Author.Rules.{rules}
 use Rattle.state.proofs.Laws.Changed.{untouched, by_two}
-use Rattle.machine.proofs.Laws.Commands.{lockCommand-some, lockCommand-none}
+use Rattle.machine.proofs.Laws.Commands.{lock_command_some, lock_command-none}
 use Rattle.command_port.proofs.commands.lock_command.Statement.{statement}
 use Rattle.command_port.proofs.commands.lock_command.Tie as tie
 
@@ -16,10 +16,10 @@ put-cell-requires : tie.Need-put-cell-requires
 put-cell-requires c κs = search rules
 
 returns : tie.Need-returns
-returns c = search (by_two, lockCommand-some)
+returns c = search (by_two, lock_command_some)
 
 returns-2 : tie.Need-returns-2
-returns-2 c = search (untouched, lockCommand-none)
+returns-2 c = search (untouched, lock_command-none)
 
 pub lock-command-spec : {M : Type 1} → statement M
 lock-command-spec =

@@ -4,8 +4,8 @@ use mathlib.Core.Path.{refl, sym}
 use mathlib.Core.Logic.{⊎_elim}
 use borrow.Author.Rules.{rules}
 use native.Mathlib.Omega.{arith}
-use Rattle.machine.proofs.Laws.Commands.{command-A7, command-A8, command-A9, command-AA, command-AB, command-AD, command-AE}
-use Rattle.machine.proofs.Laws.Commands.{command-C0, command-C1, command-C2, command-D0, command-E0, command-cell, command-low, command-high}
+use Rattle.machine.proofs.Laws.Commands.{command_A7, command_A8, command_A9, command_AA, command_AB, command_AD, command_AE}
+use Rattle.machine.proofs.Laws.Commands.{command_C0, command_C1, command_C2, command_D0, command_E0, command-cell, command-low, command-high}
 use Rattle.machine.proofs.Laws.SecondSet.{second_none_are, own_first}
 use Rattle.state.proofs.Laws.Changed.{by_rule}
 use Rattle.command_port.proofs.Laws.{by_set}
@@ -55,40 +55,40 @@ second-command-requires : tie.Need-second-command-requires
 second-command-requires c κs = search rules
 
 returns : tie.Need-returns
-returns c = search (by_set, by_rule, command-A7)
+returns c = search (by_set, by_rule, command_A7)
 
 returns-2 : tie.Need-returns-2
-returns-2 c = search (by_set, by_rule, command-A8)
+returns-2 c = search (by_set, by_rule, command_A8)
 
 returns-3 : tie.Need-returns-3
-returns-3 c = search (by_set, by_rule, command-A9)
+returns-3 c = search (by_set, by_rule, command_A9)
 
 returns-4 : tie.Need-returns-4
-returns-4 c = search (by_set, by_rule, command-AA)
+returns-4 c = search (by_set, by_rule, command_AA)
 
 returns-5 : tie.Need-returns-5
-returns-5 c = search (by_set, by_rule, command-AB)
+returns-5 c = search (by_set, by_rule, command_AB)
 
 returns-6 : tie.Need-returns-6
-returns-6 c = search (by_set, by_rule, command-AD)
+returns-6 c = search (by_set, by_rule, command_AD)
 
 returns-7 : tie.Need-returns-7
-returns-7 c = search (by_set, by_rule, command-AE)
+returns-7 c = search (by_set, by_rule, command_AE)
 
 returns-8 : tie.Need-returns-8
-returns-8 c = search (by_set, by_rule, command-C0)
+returns-8 c = search (by_set, by_rule, command_C0)
 
 returns-9 : tie.Need-returns-9
-returns-9 c = search (by_set, by_rule, command-C1)
+returns-9 c = search (by_set, by_rule, command_C1)
 
 returns-10 : tie.Need-returns-10
-returns-10 c = search (by_set, by_rule, command-C2)
+returns-10 c = search (by_set, by_rule, command_C2)
 
 returns-11 : tie.Need-returns-11
-returns-11 c = search (by_set, by_rule, command-D0)
+returns-11 c = search (by_set, by_rule, command_D0)
 
 returns-12 : tie.Need-returns-12
-returns-12 c = search (by_set, by_rule, command-E0)
+returns-12 c = search (by_set, by_rule, command_E0)
 
 returns-13 : tie.Need-returns-13
 returns-13 c =

@@ -1,7 +1,7 @@
 -- `command_port::commands::polled` meets its contract. The set's test picks the case of the definition.
 -- Assumes nothing.
 use borrow.Author.Rules.{rules}
-use Rattle.machine.proofs.Laws.Commands.{polled-second, polled-first}
+use Rattle.machine.proofs.Laws.Commands.{polled_second, polled-first}
 use Rattle.command_port.proofs.commands.polled.Statement.{statement}
 use Rattle.command_port.proofs.commands.polled.Tie as tie
 
@@ -12,7 +12,7 @@ sub-result : tie.Need-overflow-sub-result
 sub-result c = search rules
 
 returns : tie.Need-returns
-returns c = search polled-second
+returns c = search polled_second
 
 returns-2 : tie.Need-returns-2
 returns-2 c = search polled-first

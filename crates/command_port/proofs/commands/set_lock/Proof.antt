@@ -1,7 +1,7 @@
 -- `command_port::commands::close` meets its contract. The store is the law's.
 -- Assumes nothing.
 use borrow.Author.Rules.{rules}
-use Rattle.state.proofs.Laws.Changed.{stored-lockSet}
+use Rattle.state.proofs.Laws.Changed.{stored-lock_set}
 use Rattle.command_port.proofs.commands.set_lock.Statement.{statement}
 use Rattle.command_port.proofs.commands.set_lock.Tie as tie
 
@@ -21,7 +21,7 @@ element-write-s-2 : tie.Need-element-write-s-2
 element-write-s-2 c = search rules
 
 returns : tie.Need-returns
-returns c = stored-lockSet (search rules) c.with-locked.ensures
+returns c = stored-lock_set (search rules) c.with-locked.ensures
 
 pub set-lock-spec : {M : Type 1} → statement M
 set-lock-spec =

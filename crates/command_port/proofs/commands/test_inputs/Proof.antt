@@ -1,7 +1,7 @@
 -- `command_port::commands::test_inputs` meets its contract. The mode's test picks the case of the definition.
 -- Assumes nothing.
 use borrow.Author.Rules.{rules}
-use Rattle.machine.proofs.Laws.Commands.{testInputs-at, testInputs-ps2}
+use Rattle.machine.proofs.Laws.Commands.{test_inputs-at, test_inputs-ps2}
 use Rattle.command_port.proofs.commands.test_inputs.Statement.{statement}
 use Rattle.command_port.proofs.commands.test_inputs.Tie as tie
 
@@ -24,10 +24,10 @@ nibble-requires-2 : tie.Need-nibble-requires-2
 nibble-requires-2 c κs = search rules
 
 returns : tie.Need-returns
-returns c = search testInputs-at
+returns c = search test_inputs-at
 
 returns-2 : tie.Need-returns-2
-returns-2 c = search testInputs-ps2
+returns-2 c = search test_inputs-ps2
 
 pub test-inputs-spec : {M : Type 1} → statement M
 test-inputs-spec =

@@ -2,7 +2,7 @@
 -- lines.
 -- Assumes nothing.
 use borrow.Author.Rules.{rules}
-use Rattle.controller.proofs.Laws.Events.{written-status, written-refused, written-other}
+use Rattle.controller.proofs.Laws.Events.{written_status, written_refused, written_other}
 use Rattle.controller.proofs.events.respond.Statement.{statement}
 use Rattle.controller.proofs.events.respond.Tie as tie
 
@@ -25,7 +25,7 @@ returns : tie.Need-returns
 returns c =
     let test = c.before.before in
     let wrote = test.before.before.before in
-    written-status wrote.before.before.before.act.ensures wrote.write-answer.ensures test.if1.true c.before.if2.true
+    written_status wrote.before.before.before.act.ensures wrote.write-answer.ensures test.if1.true c.before.if2.true
 
 same-length-2 : tie.Need-same-length-2
 same-length-2 c = search rules
@@ -33,7 +33,7 @@ same-length-2 c = search rules
 returns-2 : tie.Need-returns-2
 returns-2 c =
     let wrote = c.before.before.before.before in
-    written-refused wrote.before.before.before.act.ensures wrote.write-answer.ensures c.if2.false
+    written_refused wrote.before.before.before.act.ensures wrote.write-answer.ensures c.if2.false
 
 same-length-3 : tie.Need-same-length-3
 same-length-3 c = search rules
@@ -41,7 +41,7 @@ same-length-3 c = search rules
 returns-3 : tie.Need-returns-3
 returns-3 c =
     let wrote = c.before.before.before in
-    written-other wrote.before.before.before.act.ensures wrote.write-answer.ensures c.if1.false
+    written_other wrote.before.before.before.act.ensures wrote.write-answer.ensures c.if1.false
 
 pub respond-spec : {M : Type 1} → statement M
 respond-spec =

@@ -3,7 +3,7 @@
 use borrow.Author.Rules.{rules}
 use lib.ListN.{length-set}
 use Rattle.state.specs.View.{public}
-use Rattle.controller.proofs.Laws.Events.{laid-any}
+use Rattle.controller.proofs.Laws.Events.{laid_any}
 use Rattle.controller.proofs.events.write_lines.Statement.{statement}
 use Rattle.controller.proofs.events.write_lines.Tie as tie
 
@@ -47,7 +47,7 @@ returns : tie.Need-returns
 returns c =
     let shown = c.before.before.before.status in
     let entry = c.before.before.before.before.before in
-    laid-any (public entry.args.s.now) shown.result entry.args.answers.now shown.ensures c.before.before.output-port.ensures
+    laid_any (public entry.args.s.now) shown.result entry.args.answers.now shown.ensures c.before.before.output-port.ensures
     c.sent-frame.ensures
 
 pub write-lines-spec : {M : Type 1} → statement M

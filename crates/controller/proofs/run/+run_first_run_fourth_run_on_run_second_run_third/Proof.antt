@@ -9,7 +9,7 @@ use borrow.Author.Rules.{rules}
 use borrow.Rule.Slice.PartMut.{same_len_mid}
 use borrow.Fn.Kinds.{In}
 use borrow.Fn.PlainCycle.{Measures, is, falls, and}
-use Rattle.controller.proofs.Laws.Run.{run-rest, run-over, both_le}
+use Rattle.controller.proofs.Laws.Run.{run_rest, run-over, both_le}
 use Rattle.controller.proofs.run.run_first.Reads as run-first
 use Rattle.controller.proofs.run.run_first.Kinds as run-first-kinds
 use Rattle.controller.proofs.run.+run_first_run_fourth_run_on_run_second_run_third.Lts-run_first as run-first-lts
@@ -100,7 +100,7 @@ pub +run-first-run-fourth-run-on-run-second-run-third-spec : {M : Type 1} → st
     (λ c.
     let one = c.before.before.before.before.before.before.before.before in
     let (some, room) = one.before.before.before.before.before.requires.1 in
-    run-rest (omega (arith, some)) (omega (arith, room)) one.run-one.ensures c.before.before.run-second.ensures))
+    run_rest (omega (arith, some)) (omega (arith, room)) one.run-one.ensures c.before.before.run-second.ensures))
     (λ t. run-fourth-lts.spec (run-one.Asked, run-one.Learnt, on_below t, run_on.Post) (fourth-at t) run-fourth.Post
     (λ c κs. search rules)
     (λ c. search rules)
@@ -120,7 +120,7 @@ pub +run-first-run-fourth-run-on-run-second-run-third-spec : {M : Type 1} → st
     (λ c.
     let one = c.before.before.before.before.before.before.before.before in
     let (some, room) = one.before.before.before.before.before.requires.1 in
-    run-rest (omega (arith, some)) (omega (arith, room)) one.run-one.ensures c.before.before.run_on.ensures))
+    run_rest (omega (arith, some)) (omega (arith, room)) one.run-one.ensures c.before.before.run_on.ensures))
     (λ t. run-on-lts.spec (first_below t, run-first.Post, fourth-below t, run-fourth.Post) (on-at t) run_on.Post
     (λ c κs.
     let start = c.before.before.before.before.before in
@@ -156,7 +156,7 @@ pub +run-first-run-fourth-run-on-run-second-run-third-spec : {M : Type 1} → st
     (λ c.
     let one = c.before.before.before.before.before.before.before.before in
     let (some, room) = one.before.before.before.before.before.requires.1 in
-    run-rest (omega (arith, some)) (omega (arith, room)) one.run-one.ensures c.before.before.run-third.ensures))
+    run_rest (omega (arith, some)) (omega (arith, room)) one.run-one.ensures c.before.before.run-third.ensures))
     (λ t. run-third-lts.spec (run-one.Asked, run-one.Learnt, fourth-below t, run-fourth.Post) (third_at t) run-third.Post
     (λ c κs. search rules)
     (λ c. search rules)
@@ -180,4 +180,4 @@ pub +run-first-run-fourth-run-on-run-second-run-third-spec : {M : Type 1} → st
     (λ c.
     let one = c.before.before.before.before.before.before.before.before in
     let (some, room) = one.before.before.before.before.before.requires.1 in
-    run-rest (omega (arith, some)) (omega (arith, room)) one.run-one.ensures c.before.before.run-fourth.ensures))
+    run_rest (omega (arith, some)) (omega (arith, room)) one.run-one.ensures c.before.before.run-fourth.ensures))

@@ -1,7 +1,7 @@
 -- `controller::run::run_last` meets its contract. One event, with none behind it, or nothing that fits.
 -- Assumes nothing.
 use borrow.Author.Rules.{rules}
-use Rattle.controller.proofs.Laws.Run.{run-last, run-over, both_le}
+use Rattle.controller.proofs.Laws.Run.{run_last, run-over, both_le}
 use Rattle.controller.proofs.run.run_last.Statement.{statement}
 use Rattle.controller.proofs.run.run_last.Tie as tie
 
@@ -16,7 +16,7 @@ returns c =
     let one = c.before.before in
     let test = one.before.before.before in
     let (some, room) = both_le test.if1.true in
-    run-last some room one.run-one.ensures test.before.before.before.requires
+    run_last some room one.run-one.ensures test.before.before.before.requires
 
 returns-2 : tie.Need-returns-2
 returns-2 c = run-over c.if1.false

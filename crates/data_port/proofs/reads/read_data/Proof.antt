@@ -3,7 +3,7 @@
 use borrow.Author.Rules.{rules}
 use mathlib.Core.Path.{refl, sym}
 use Rattle.state.proofs.Laws.Told.{told_refused, told_accepted}
-use Rattle.machine.proofs.Laws.Events.{accept-read}
+use Rattle.machine.proofs.Laws.Events.{accept_read}
 use Rattle.state.proofs.Laws.Changed.{by_rule}
 use Rattle.data_port.proofs.reads.read_data.Statement.{statement}
 use Rattle.data_port.proofs.reads.read_data.Tie as tie
@@ -40,7 +40,7 @@ returns-2 c = let told = c.before.before in
     let tested = told.before.before.before.before in
     told_accepted (tested.before.read-refusal.ensures _).0 tested.if1.false
     (refl, refl, simp (told.weight.ensures.0, told.before.output-full.ensures), refl)
-    (by_rule c.empty.ensures (sym (accept-read _ _ refl)))
+    (by_rule c.empty.ensures (sym (accept_read _ _ refl)))
 
 pub read-data-spec : {M : Type 1} → statement M
 read-data-spec =

@@ -1,7 +1,7 @@
 -- `data_port::writes::data_written` meets its contract. The store is the law's.
 -- Assumes nothing.
 use borrow.Author.Rules.{rules}
-use Rattle.state.proofs.Laws.Changed.{stored-dataWritten}
+use Rattle.state.proofs.Laws.Changed.{stored-data_written}
 use Rattle.data_port.proofs.writes.data_written.Statement.{statement}
 use Rattle.data_port.proofs.writes.data_written.Tie as tie
 
@@ -18,7 +18,7 @@ element-write-s : tie.Need-element-write-s
 element-write-s c = search rules
 
 returns : tie.Need-returns
-returns c = stored-dataWritten (search rules) c.with-command.ensures
+returns c = stored-data_written (search rules) c.with-command.ensures
 
 pub data-written-spec : {M : Type 1} → statement M
 data-written-spec =

@@ -2,7 +2,7 @@
 -- Assumes nothing.
 use borrow.Author.Rules.{rules}
 use Rattle.state.proofs.Laws.Changed.{by_rule, by_two}
-use Rattle.state.proofs.Laws.Code.{loadByte-full, loadByte-room}
+use Rattle.state.proofs.Laws.Code.{load_byte-full, load_byte-room}
 use Rattle.machine.proofs.Laws.DataPort.{load_byte_end}
 use Rattle.data_port.proofs.writes.load_byte.Statement.{statement}
 use Rattle.data_port.proofs.writes.load_byte.Tie as tie
@@ -32,13 +32,13 @@ drop-code-requires : tie.Need-drop-code-requires
 drop-code-requires c κs = search rules
 
 returns-2 : tie.Need-returns-2
-returns-2 c = search (by_two, loadByte-full)
+returns-2 c = search (by_two, load_byte-full)
 
 append-requires : tie.Need-append-requires
 append-requires c κs = search rules
 
 returns-3 : tie.Need-returns-3
-returns-3 c = search (by_rule, loadByte-room)
+returns-3 c = search (by_rule, load_byte-room)
 
 pub load-byte-spec : {M : Type 1} → statement M
 load-byte-spec =

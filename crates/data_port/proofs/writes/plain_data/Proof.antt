@@ -2,7 +2,7 @@
 -- Assumes nothing.
 use borrow.Author.Rules.{rules}
 use Rattle.state.proofs.Laws.Changed.{by_rule}
-use Rattle.machine.proofs.Laws.DataPort.{data-1, data-2, data-4, data-5, data-6, data-7, data-other}
+use Rattle.machine.proofs.Laws.DataPort.{data_1, data_2, data_4, data_5, data_6, data_7, data_other}
 use Rattle.data_port.proofs.writes.plain_data.Statement.{statement}
 use Rattle.data_port.proofs.writes.plain_data.Tie as tie
 
@@ -31,25 +31,25 @@ send-keyboard-requires : tie.Need-send-keyboard-requires
 send-keyboard-requires c κs = search rules
 
 returns : tie.Need-returns
-returns c = search (by_rule, data-1)
+returns c = search (by_rule, data_1)
 
 returns-2 : tie.Need-returns-2
-returns-2 c = search (by_rule, data-2)
+returns-2 c = search (by_rule, data_2)
 
 returns-3 : tie.Need-returns-3
-returns-3 c = search (by_rule, data-4)
+returns-3 c = search (by_rule, data_4)
 
 returns-4 : tie.Need-returns-4
-returns-4 c = search (by_rule, data-5)
+returns-4 c = search (by_rule, data_5)
 
 returns-5 : tie.Need-returns-5
-returns-5 c = search (by_rule, data-6)
+returns-5 c = search (by_rule, data_6)
 
 returns-6 : tie.Need-returns-6
-returns-6 c = search (by_rule, data-7)
+returns-6 c = search (by_rule, data_7)
 
 returns-7 : tie.Need-returns-7
-returns-7 c = search (by_rule, data-other)
+returns-7 c = search (by_rule, data_other)
 
 pub plain-data-spec : {M : Type 1} → statement M
 plain-data-spec =

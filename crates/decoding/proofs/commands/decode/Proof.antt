@@ -4,7 +4,7 @@ use mathlib.Core.Path.{ap, ◌∙◌}
 use borrow.Author.Rules.{rules}
 use Rattle.state.specs.View.{public}
 use Rattle.machine.specs.Commands.{pending_of, cell_named}
-use Rattle.decoding.proofs.Laws.{heard-leaves}
+use Rattle.decoding.proofs.Laws.{heard_leaves}
 use Rattle.decoding.proofs.commands.decode.Statement.{statement}
 use Rattle.decoding.proofs.commands.decode.Tie as tie
 
@@ -24,7 +24,7 @@ returns : tie.Need-returns
 returns c =
     let known = c.before.before.heard.ensures in
     let given = c.before.before.before.before.args in
-    let (code, cell) = heard-leaves (public given.s.now).settings given.c (search rules) in
+    let (code, cell) = heard_leaves (public given.s.now).settings given.c (search rules) in
     record {
       command = known;
       pending = c.before.pending-of.ensures ∙ ap pending_of known ∙ code;

@@ -2,8 +2,8 @@
 -- Assumes nothing.
 use borrow.Author.Rules.{rules}
 use Rattle.state.specs.View.{public}
-use Rattle.machine.proofs.Laws.Commands.{understood-hidden, understood-none, understood-same}
-use Rattle.decoding.proofs.Laws.{heard-itself, heard-understood}
+use Rattle.machine.proofs.Laws.Commands.{understood_hidden, understood-none, understood-same}
+use Rattle.decoding.proofs.Laws.{heard_itself, heard-understood}
 use Rattle.decoding.proofs.commands.heard.Statement.{statement}
 use Rattle.decoding.proofs.commands.heard.Tie as tie
 
@@ -17,7 +17,7 @@ returns : tie.Need-returns
 returns c =
     let second = c.before in
     let given = second.before.before.args in
-    heard-itself (public given.s.now).settings given.c second.before.at-mode.ensures second.second-set.ensures c.if1.true
+    heard_itself (public given.s.now).settings given.c second.before.at-mode.ensures second.second-set.ensures c.if1.true
 
 not-in-mode-requires : tie.Need-not-in-mode-requires
 not-in-mode-requires c κs = search rules
@@ -29,7 +29,7 @@ returns-2 c =
     let given = second.before.before.args in
     let x = (public given.s.now).settings in
     heard-understood x given.c second.before.at-mode.ensures second.second-set.ensures mode.before.if1.false
-    (understood-hidden x given.c mode.not-in-mode.ensures c.if2.true)
+    (understood_hidden x given.c mode.not-in-mode.ensures c.if2.true)
 
 not-in-set-requires : tie.Need-not-in-set-requires
 not-in-set-requires c κs = search rules

@@ -4,7 +4,7 @@ use borrow.Author.Rules.{rules}
 use mathlib.Core.Path.{refl}
 use Rattle.machine.specs.Events.{accept}
 use Rattle.state.proofs.Laws.Changed.{by_rule}
-use Rattle.state.proofs.Laws.Told.{met, met-accepted, met-refused}
+use Rattle.state.proofs.Laws.Told.{met, met_accepted, met_refused}
 use Rattle.devices.proofs.mouse.mouse_event.Statement.{statement}
 use Rattle.devices.proofs.mouse.mouse_event.Tie as tie
 
@@ -29,8 +29,8 @@ returns c =
     let checked = c.before.before.mouse-refusal.ensures in
     let told = c.quiet.ensures in
     met c.before.if1.branch
-    (λ w. met-accepted checked told w.0.taken (refl, refl, refl) (by_rule w.4.ensures (rw (w.3.ensures, w.2.ensures) refl)) w.5)
-    (λ w. met-refused checked told w.0.left w.1)
+    (λ w. met_accepted checked told w.0.taken (refl, refl, refl) (by_rule w.4.ensures (rw (w.3.ensures, w.2.ensures) refl)) w.5)
+    (λ w. met_refused checked told w.0.left w.1)
 
 pub mouse-event-spec : {M : Type 1} → statement M
 mouse-event-spec =

@@ -9,7 +9,7 @@ use Rattle.machine.specs.Events.{event, accept}
 use Rattle.state.specs.View.{public, view}
 use Rattle.machine.proofs.Laws.Events.{value-byte}
 use Rattle.state.proofs.Laws.Changed.{by_rule}
-use Rattle.state.proofs.Laws.Told.{met, met-accepted, met-refused}
+use Rattle.state.proofs.Laws.Told.{met, met_accepted, met_refused}
 use Rattle.devices.proofs.pins.pins_event.Statement.{statement}
 use Rattle.devices.proofs.pins.pins_event.Tie as tie
 
@@ -32,9 +32,9 @@ returns c =
     met c.before.if1.branch
     (λ w.
     let byte = value-byte (public s) (event 8 a.low a.high) (sym checked ∙ w.0.taken) refl in
-    met-accepted checked told w.0.taken (refl, refl, refl)
+    met_accepted checked told w.0.taken (refl, refl, refl)
     (by_rule w.2.ensures (ap (λ (v : ℕ). lift (pinned v) (view s)) (sym byte))) w.3)
-    (λ w. met-refused checked told w.0.left w.1)
+    (λ w. met_refused checked told w.0.left w.1)
 
 pub pins-event-spec : {M : Type 1} → statement M
 pins-event-spec =

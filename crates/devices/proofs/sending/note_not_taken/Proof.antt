@@ -1,7 +1,7 @@
 -- `devices::sending::note_not_taken` meets its contract. The stores are the law's.
 -- Assumes nothing.
 use borrow.Author.Rules.{rules}
-use Rattle.state.proofs.Laws.Changed.{stored-notTaken}
+use Rattle.state.proofs.Laws.Changed.{stored-not_taken}
 use Rattle.devices.proofs.sending.note_not_taken.Statement.{statement}
 use Rattle.devices.proofs.sending.note_not_taken.Tie as tie
 
@@ -27,7 +27,7 @@ element-write-s-2 : tie.Need-element-write-s-2
 element-write-s-2 c = search rules
 
 returns : tie.Need-returns
-returns c = stored-notTaken (search rules) c.before.before.before.at-mode.ensures c.weight.ensures.0 c.before.with-errors.ensures
+returns c = stored-not_taken (search rules) c.before.before.before.at-mode.ensures c.weight.ensures.0 c.before.with-errors.ensures
 
 pub note-not-taken-spec : {M : Type 1} → statement M
 note-not-taken-spec =

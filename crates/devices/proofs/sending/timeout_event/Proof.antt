@@ -4,7 +4,7 @@ use borrow.Author.Rules.{rules}
 use mathlib.Core.Path.{refl}
 use Rattle.machine.specs.Events.{accept}
 use Rattle.state.proofs.Laws.Changed.{by_rule}
-use Rattle.state.proofs.Laws.Told.{met, met-accepted, met-refused}
+use Rattle.state.proofs.Laws.Told.{met, met_accepted, met_refused}
 use Rattle.devices.proofs.sending.timeout_event.Statement.{statement}
 use Rattle.devices.proofs.sending.timeout_event.Tie as tie
 
@@ -23,8 +23,8 @@ returns c =
     let checked = c.before.before.end-refusal.ensures.1 in
     let told = c.quiet.ensures in
     met c.before.if1.branch
-    (λ w. met-accepted checked told w.0.taken (refl, refl, refl) (by_rule w.2.ensures refl) w.3)
-    (λ w. met-refused checked told w.0.left w.1)
+    (λ w. met_accepted checked told w.0.taken (refl, refl, refl) (by_rule w.2.ensures refl) w.3)
+    (λ w. met_refused checked told w.0.left w.1)
 
 pub timeout-event-spec : {M : Type 1} → statement M
 timeout-event-spec =

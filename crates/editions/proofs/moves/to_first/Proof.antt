@@ -4,7 +4,7 @@ use mathlib.Core.Path.{sym}
 use native.Mathlib.Omega.{arith}
 use lib.ListN.{length-take}
 use borrow.Author.Rules.{rules}
-use Rattle.editions.proofs.Laws.Read.{read-long}
+use Rattle.editions.proofs.Laws.Read.{read_long}
 use Rattle.editions.proofs.Laws.Moves.{back_none, back-unread, back-other-settings, back-written}
 use Rattle.editions.proofs.moves.to_first.Statement.{statement}
 use Rattle.editions.proofs.moves.to_first.Tie as tie
@@ -36,12 +36,12 @@ returns-3 c =
     c.if3.true
 
 slice-aggregate-whole : tie.Need-slice-aggregate-whole
-slice-aggregate-whole c = sym (read-long _ c.before.before.before.before.before.read-body.ensures c.before.before.before.before.if2.false)
+slice-aggregate-whole c = sym (read_long _ c.before.before.before.before.before.read-body.ensures c.before.before.before.before.if2.false)
 
 slice-aggregate-seal : tie.Need-slice-aggregate-seal
 slice-aggregate-seal c =
     let none = c.before.before.before.before.before in
-    simp length-take (omega (arith, read-long _ none.before.read-body.ensures none.if2.false))
+    simp length-take (omega (arith, read_long _ none.before.read-body.ensures none.if2.false))
 
 seal-requires : tie.Need-seal-requires
 seal-requires c κs = search rules

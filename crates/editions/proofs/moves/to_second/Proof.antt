@@ -2,7 +2,7 @@
 -- Assumes nothing.
 use mathlib.Core.Path.{sym}
 use borrow.Author.Rules.{rules}
-use Rattle.editions.proofs.Laws.Read.{read-long}
+use Rattle.editions.proofs.Laws.Read.{read_long}
 use Rattle.editions.proofs.Laws.Moves.{forward-none, forward-unread, forward-written}
 use Rattle.editions.proofs.moves.to_second.Statement.{statement}
 use Rattle.editions.proofs.moves.to_second.Tie as tie
@@ -22,7 +22,7 @@ returns-2 c =
     forward-unread _ _ one.before.body-size.ensures c.before.read-body.ensures one.if1.false c.if2.true
 
 slice-aggregate-seal : tie.Need-slice-aggregate-seal
-slice-aggregate-seal c = sym (read-long _ c.before.before.read-body.ensures c.before.if2.false)
+slice-aggregate-seal c = sym (read_long _ c.before.before.read-body.ensures c.before.if2.false)
 
 seal-requires : tie.Need-seal-requires
 seal-requires c κs = search rules

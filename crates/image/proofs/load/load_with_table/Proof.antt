@@ -3,8 +3,8 @@
 use mathlib.Core.Path.{sym}
 use native.Mathlib.Omega.{arith}
 use borrow.Author.Rules.{rules}
-use Rattle.editions.proofs.Laws.Read.{read-long}
-use Rattle.image.proofs.Laws.Promises.{load-unread, load-other-table, load_stored}
+use Rattle.editions.proofs.Laws.Read.{read_long}
+use Rattle.image.proofs.Laws.Promises.{load_unread, load-other-table, load_stored}
 use Rattle.image.proofs.load.load_with_table.Statement.{statement}
 use Rattle.image.proofs.load.load_with_table.Tie as tie
 
@@ -12,7 +12,7 @@ read-body-requires : tie.Need-read-body-requires
 read-body-requires c κs = search rules
 
 returns : tie.Need-returns
-returns c = load-unread _ _ c.before.read-body.ensures c.if1.true
+returns c = load_unread _ _ c.before.read-body.ensures c.if1.true
 
 start-with-table-requires : tie.Need-start-with-table-requires
 start-with-table-requires c κs = search rules
@@ -26,12 +26,12 @@ returns-2 c =
 slice-aggregate-copy : tie.Need-slice-aggregate-copy
 slice-aggregate-copy c =
     let none = c.before.before.before.before in
-    sym (read-long _ none.before.read-body.ensures none.if1.false)
+    sym (read_long _ none.before.read-body.ensures none.if1.false)
 
 copy-requires : tie.Need-copy-requires
 copy-requires c κs =
     let none = c.before.before.before.before.before in
-    omega (arith, read-long _ none.before.read-body.ensures none.if1.false)
+    omega (arith, read_long _ none.before.read-body.ensures none.if1.false)
 
 returns-3 : tie.Need-returns-3
 returns-3 c =

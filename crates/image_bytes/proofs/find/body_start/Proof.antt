@@ -1,7 +1,7 @@
 -- `image_bytes::find::body_start` meets its contract. An image that passes check 10 has the size of its body as its distance.
 -- Assumes nothing.
 use Rattle.std.proofs.Common.{◌≡◌, ℕ, List, sym, ◌∙◌, arith, rules}
-use Rattle.image_bytes.proofs.Laws.Find.{sealed-distance, Image, image-of, body_start-none, body_start_pointed}
+use Rattle.image_bytes.proofs.Laws.Find.{sealed_distance, Image, image_of, body_start-none, body_start_pointed}
 use Rattle.image_bytes.proofs.find.body_start.Statement.{statement}
 use Rattle.image_bytes.proofs.find.body_start.Tie as tie
 
@@ -9,12 +9,12 @@ abbrev given : tie.Else1 → List ℕ
 given c = c.before.before.before.args.bytes.now
 
 image : (c : tie.Else1) → Image (given c)
-image c = image-of (given c) (λ z. c.if1.false (c.before.body-size.ensures ∙ z))
+image c = image_of (given c) (λ z. c.if1.false (c.before.body-size.ensures ∙ z))
 
 pointed : (c : tie.After-word) → c.word.result ≡ (image c.before.before.before).size
 pointed c =
     let i = image c.before.before.before in
-    c.word.ensures ∙ sealed-distance i.edition i.size _ i.parts
+    c.word.ensures ∙ sealed_distance i.edition i.size _ i.parts
 
 body-size-requires : tie.Need-body-size-requires
 body-size-requires c κs = search rules

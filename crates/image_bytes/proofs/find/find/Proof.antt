@@ -2,7 +2,7 @@
 -- part lies is what the rule of a part says.
 -- Assumes nothing.
 use Rattle.std.proofs.Common.{refl, arith, rules}
-use Rattle.image_bytes.proofs.Laws.Find.{start-room, found_nowhere, found-there}
+use Rattle.image_bytes.proofs.Laws.Find.{start-room, found_nowhere, found_there}
 use Rattle.image_bytes.proofs.find.find.Statement.{statement}
 use Rattle.image_bytes.proofs.find.find.Tie as tie
 
@@ -34,7 +34,7 @@ part-result-end-2 : tie.Need-slice-bounds-result-end-2
 part-result-end-2 c = search rules
 
 returns-2 : tie.Need-returns-2
-returns-2 c = found-there c.before.before.body-start.ensures c.before.if1.false refl
+returns-2 c = found_there c.before.before.body-start.ensures c.before.if1.false refl
 
 pub find_spec : {M : Type 1} → statement M
 find_spec =

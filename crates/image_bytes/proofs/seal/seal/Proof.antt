@@ -2,14 +2,14 @@
 -- Assumes nothing.
 use Rattle.std.proofs.Common.{arith, rules}
 use Rattle.image_bytes.proofs.Laws.Layout.{length-sealed}
-use Rattle.image_bytes.proofs.Laws.Seal.{written-short, sealed_written}
+use Rattle.image_bytes.proofs.Laws.Seal.{written_short, sealed_written}
 use Rattle.image_bytes.proofs.seal.seal.Statement.{statement}
 use Rattle.image_bytes.proofs.seal.seal.Tie as tie
 
 returns : tie.Need-returns
 returns c =
     let a = c.before.before.before.args in
-    written-short _ _ (omega (arith, length-sealed a.edition a.body.now, c.if1.true))
+    written_short _ _ (omega (arith, length-sealed a.edition a.body.now, c.if1.true))
 
 sub-if2 : tie.Need-overflow-sub-if2
 sub-if2 c = search rules
@@ -17,7 +17,7 @@ sub-if2 c = search rules
 returns-2 : tie.Need-returns-2
 returns-2 c =
     let a = c.before.before.before.before.args in
-    written-short _ _ (omega (arith, length-sealed a.edition a.body.now, c.if2.true))
+    written_short _ _ (omega (arith, length-sealed a.edition a.body.now, c.if2.true))
 
 trailer-requires : tie.Need-trailer-requires
 trailer-requires c κs = search rules

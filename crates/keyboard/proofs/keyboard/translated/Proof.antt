@@ -1,7 +1,7 @@
 -- `keyboard::keyboard::translated` meets its contract. The test is the definition's own, and the entry is of the state's table.
 -- Assumes nothing.
 use borrow.Author.Rules.{rules}
-use Rattle.machine.proofs.Laws.Devices.{translated-on, translated-off}
+use Rattle.machine.proofs.Laws.Devices.{translated-on, translated_off}
 use Rattle.keyboard.proofs.keyboard.translated.Statement.{statement}
 use Rattle.keyboard.proofs.keyboard.translated.Tie as tie
 
@@ -32,7 +32,7 @@ returns c =
     (c.translate.ensures _ read.before.entry.ensures) read.breaks.ensures
 
 returns-2 : tie.Need-returns-2
-returns-2 c = search translated-off
+returns-2 c = search translated_off
 
 pub translated-spec : {M : Type 1} → statement M
 translated-spec =

@@ -1,7 +1,7 @@
 -- `keyboard::lock::open_lock` meets its contract. The stores are the law's.
 -- Assumes nothing.
 use borrow.Author.Rules.{rules}
-use Rattle.state.proofs.Laws.Changed.{stored-lockCleared}
+use Rattle.state.proofs.Laws.Changed.{stored-lock_cleared}
 use Rattle.keyboard.proofs.lock.clear_lock.Statement.{statement}
 use Rattle.keyboard.proofs.lock.clear_lock.Tie as tie
 
@@ -21,7 +21,7 @@ element-write-s-2 : tie.Need-element-write-s-2
 element-write-s-2 c = search rules
 
 returns : tie.Need-returns
-returns c = stored-lockCleared (search rules) c.with-locked.ensures
+returns c = stored-lock_cleared (search rules) c.with-locked.ensures
 
 pub clear-lock-spec : {M : Type 1} → statement M
 clear-lock-spec =

@@ -3,7 +3,7 @@
 use mathlib.Core.Path.{◌∙◌}
 use native.Mathlib.Omega.{arith}
 use borrow.Author.Rules.{rules}
-use Rattle.state.proofs.Laws.Lock.{reach-next, reach-back, reach-past}
+use Rattle.state.proofs.Laws.Lock.{reach-next, reach-back, reach_past}
 use Rattle.keyboard.proofs.lock_code.reach.Statement.{statement}
 use Rattle.keyboard.proofs.lock_code.reach.Tie as tie
 
@@ -26,7 +26,7 @@ returns : tie.Need-returns
 returns c =
     let args = c.before.before.before.before.before.before.args in
     let found = c.fall-back.ensures in
-    (found.0 ∙ reach-past args.s.now args.x _ _ c.before.before.before.code-length.ensures.0 (omega arith), omega (arith, found.1))
+    (found.0 ∙ reach_past args.s.now args.x _ _ c.before.before.before.code-length.ensures.0 (omega arith), omega (arith, found.1))
 
 cast-k : tie.Need-overflow-cast-k
 cast-k c = search rules

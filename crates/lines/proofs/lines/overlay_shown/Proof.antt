@@ -2,7 +2,7 @@
 -- Assumes nothing.
 use borrow.Author.Rules.{rules}
 use native.Mathlib.Omega.{arith}
-use Rattle.machine.proofs.Laws.Lines.{overlayShown-second, overlayShown-first}
+use Rattle.machine.proofs.Laws.Lines.{overlay_shown-second, overlay_shown-first}
 use Rattle.lines.proofs.lines.overlay_shown.Statement.{statement}
 use Rattle.lines.proofs.lines.overlay_shown.Tie as tie
 
@@ -31,10 +31,10 @@ mul-result : tie.Need-overflow-mul-result
 mul-result c = search rules
 
 returns : tie.Need-returns
-returns c = (search overlayShown-second, c.upper.ensures.1)
+returns c = (search overlay_shown-second, c.upper.ensures.1)
 
 returns-2 : tie.Need-returns-2
-returns-2 c = (overlayShown-first _ c.before.before.second-set.ensures c.before.if1.false, omega arith)
+returns-2 c = (overlay_shown-first _ c.before.before.second-set.ensures c.before.if1.false, omega arith)
 
 pub overlay-shown-spec : {M : Type 1} → statement M
 overlay-shown-spec =

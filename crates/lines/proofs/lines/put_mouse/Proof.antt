@@ -2,7 +2,7 @@
 -- Assumes nothing.
 use borrow.Author.Rules.{rules}
 use Rattle.state.proofs.Laws.Changed.{kept-change, stored-put}
-use Rattle.machine.proofs.Laws.KeptLines.{putMouse-kept}
+use Rattle.machine.proofs.Laws.KeptLines.{put_mouse-kept}
 use Rattle.lines.proofs.lines.put_mouse.Statement.{statement}
 use Rattle.lines.proofs.lines.put_mouse.Tie as tie
 
@@ -22,7 +22,7 @@ element-write-s-2 : tie.Need-element-write-s-2
 element-write-s-2 c = search rules
 
 returns : tie.Need-returns
-returns c = kept-change (stored-put (search rules) c.with-output.ensures) (λ k. putMouse-kept k _ (search rules))
+returns c = kept-change (stored-put (search rules) c.with-output.ensures) (λ k. put_mouse-kept k _ (search rules))
 
 pub put-mouse-spec : {M : Type 1} → statement M
 put-mouse-spec =

@@ -4,7 +4,7 @@ use borrow.Author.Rules.{rules}
 use mathlib.Core.Path.{sym, ◌∙◌}
 use native.Mathlib.Omega.{arith}
 use Rattle.translation.specs.Bits.{nibble}
-use Rattle.machine.proofs.Laws.Lines.{mouse-requested, keyboard-requested}
+use Rattle.machine.proofs.Laws.Lines.{mouse_requested, keyboard_requested}
 use Rattle.lines.proofs.lines.requests.Statement.{statement}
 use Rattle.lines.proofs.lines.requests.Tie as tie
 
@@ -27,10 +27,10 @@ weight-requires-2 : tie.Need-weight-requires-2
 weight-requires-2 c κs = search rules
 
 returns : tie.Need-returns
-returns c = (search (mouse-requested), search rules)
+returns c = (search (mouse_requested), search rules)
 
 returns-2 : tie.Need-returns-2
-returns-2 c = (search (keyboard-requested), search rules)
+returns-2 c = (search (keyboard_requested), search rules)
 
 returns-3 : tie.Need-returns-3
 unfolding nibble

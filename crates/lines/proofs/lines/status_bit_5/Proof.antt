@@ -1,7 +1,7 @@
 -- `lines::lines::status_bit_5` meets its contract. The mode's test picks the case of the definition.
 -- Assumes nothing.
 use borrow.Author.Rules.{rules}
-use Rattle.machine.proofs.Laws.Lines.{statusBit5-at, statusBit5-ps2}
+use Rattle.machine.proofs.Laws.Lines.{status_bit5-at, status_bit5-ps2}
 use Rattle.lines.proofs.lines.status_bit_5.Statement.{statement}
 use Rattle.lines.proofs.lines.status_bit_5.Tie as tie
 
@@ -18,10 +18,10 @@ from-mouse-requires : tie.Need-from-mouse-requires
 from-mouse-requires c κs = search rules
 
 returns : tie.Need-returns
-returns c = search statusBit5-at
+returns c = search status_bit5-at
 
 returns-2 : tie.Need-returns-2
-returns-2 c = search statusBit5-ps2
+returns-2 c = search status_bit5-ps2
 
 pub status-bit-5-spec : {M : Type 1} → statement M
 status-bit-5-spec =

@@ -1,7 +1,7 @@
 -- `lines::mode::disable_mouse` meets its contract. The mode byte that is stored is the rule's, of the one that was read.
 -- Assumes nothing.
 use borrow.Author.Rules.{rules}
-use Rattle.machine.proofs.Laws.KeptLines.{mouseDisabled-kept}
+use Rattle.machine.proofs.Laws.KeptLines.{mouse_disabled-kept}
 use Rattle.state.proofs.Laws.Changed.{by_rule, kept-change}
 use Rattle.lines.proofs.mode.disable_mouse.Statement.{statement}
 use Rattle.lines.proofs.mode.disable_mouse.Tie as tie
@@ -22,7 +22,7 @@ set-mode-requires : tie.Need-set-mode-requires
 set-mode-requires c κs = search rules
 
 returns : tie.Need-returns
-returns c = kept-change (by_rule c.set-mode.ensures.change (cc)) (λ k. mouseDisabled-kept k)
+returns c = kept-change (by_rule c.set-mode.ensures.change (cc)) (λ k. mouse_disabled-kept k)
 
 pub disable-mouse-spec : {M : Type 1} → statement M
 disable-mouse-spec =

@@ -1,7 +1,7 @@
 -- `lines::mode::enable_mouse` meets its contract. The mode byte that is stored is the rule's, of the one that was read.
 -- Assumes nothing.
 use borrow.Author.Rules.{rules}
-use Rattle.machine.proofs.Laws.KeptLines.{mouseEnabled-kept}
+use Rattle.machine.proofs.Laws.KeptLines.{mouse_enabled-kept}
 use Rattle.state.proofs.Laws.Changed.{by_rule, kept-change}
 use Rattle.lines.proofs.mode.enable_mouse.Statement.{statement}
 use Rattle.lines.proofs.mode.enable_mouse.Tie as tie
@@ -19,7 +19,7 @@ set-mode-requires : tie.Need-set-mode-requires
 set-mode-requires c κs = search rules
 
 returns : tie.Need-returns
-returns c = kept-change (by_rule c.set-mode.ensures.change (cc)) (λ k. mouseEnabled-kept k)
+returns c = kept-change (by_rule c.set-mode.ensures.change (cc)) (λ k. mouse_enabled-kept k)
 
 pub enable-mouse-spec : {M : Type 1} → statement M
 enable-mouse-spec =

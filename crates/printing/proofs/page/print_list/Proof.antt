@@ -1,7 +1,7 @@
 -- `printing::page::print_list` meets its contract: a refused list prints its refusal; with room for both, the run leaves the answers in their
 -- buffer and the page is made of those; else nothing is written. Assumes nothing.
 use native.Mathlib.Omega.{arith}
-use Rattle.printing.proofs.Laws.Page.{refused_length_false, printed-refused, printed-few, printed-short, printed-all}
+use Rattle.printing.proofs.Laws.Page.{refused_length_false, printed_refused, printed_few, printed_short, printed_all}
 use borrow.Author.Rules.{rules}
 use Rattle.printing.proofs.page.print_list.Statement.{statement}
 use Rattle.printing.proofs.page.print_list.Tie as tie
@@ -16,13 +16,13 @@ same_length : tie.Need-same-length
 same_length c = search rules
 
 returns : tie.Need-returns
-returns c = search printed-refused
+returns c = search printed_refused
 
 mul-if2 : tie.Need-overflow-mul-if2
 mul-if2 c = omega (arith, refused_length_false _ c.before.is-refused.ensures c.if1.false)
 
 returns-2 : tie.Need-returns-2
-returns-2 c = search printed-few
+returns-2 c = search printed_few
 
 mul-if3 : tie.Need-overflow-mul-if3
 mul-if3 c = let t = c.before in
@@ -33,7 +33,7 @@ add-if3 c = let t = c.before in
     omega (arith, refused_length_false _ t.before.is-refused.ensures t.if1.false)
 
 returns-3 : tie.Need-returns-3
-returns-3 c = search printed-short
+returns-3 c = search printed_short
 
 run-fresh-requires : tie.Need-run-fresh-requires
 run-fresh-requires c κs = search rules
@@ -48,7 +48,7 @@ same-length-3 : tie.Need-same-length-3
 same-length-3 c = search rules
 
 returns-4 : tie.Need-returns-4
-returns-4 c = search printed-all
+returns-4 c = search printed_all
 
 pub print-list-spec : {M : Type 1} → statement M
 print-list-spec =

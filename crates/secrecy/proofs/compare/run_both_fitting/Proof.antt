@@ -2,7 +2,7 @@
 -- equal answers.
 -- Assumes nothing.
 use borrow.Author.Rules.{rules}
-use Rattle.secrecy.proofs.Compared.{fitting-refused, fitting-compared}
+use Rattle.secrecy.proofs.Compared.{fitting-refused, fitting_compared}
 use Rattle.secrecy.proofs.compare.run_both_fitting.Statement.{statement}
 use Rattle.secrecy.proofs.compare.run_both_fitting.Tie as tie
 
@@ -25,7 +25,7 @@ same-length-2 : tie.Need-same-length-2
 same-length-2 c = search rules
 
 returns-2 : tie.Need-returns-2
-returns-2 c = search fitting-compared
+returns-2 c = search fitting_compared
 
 pub run-both-fitting-spec : {M : Type 1} → statement M
 run-both-fitting-spec =

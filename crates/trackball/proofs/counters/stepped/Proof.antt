@@ -2,7 +2,7 @@
 -- sixteen again. Assumes nothing.
 use mir.Syntax.{w16}
 use mir.Val.{SFits}
-use Rattle.trackball.proofs.Laws.Counters.{read_fits, widened-fits, kept-fits, stepped-low, stepped-high, stepped_within}
+use Rattle.trackball.proofs.Laws.Counters.{read_fits, widened_fits, kept_fits, stepped-low, stepped-high, stepped_within}
 use Rattle.trackball.proofs.counters.stepped.Statement.{statement}
 use Rattle.trackball.proofs.counters.stepped.Tie as tie
 
@@ -17,7 +17,7 @@ cast-wide-2 : tie.Need-overflow-cast-wide-2
 cast-wide-2 c = read_fits c.before.ranges.step
 
 add_wide : tie.Need-overflow-add-wide
-add_wide c = widened-fits (sum_fits c) c.before.ranges.step
+add_wide c = widened_fits (sum_fits c) c.before.ranges.step
 
 returns : tie.Need-returns
 returns c = stepped-low (sum_fits c.before) c.before.before.ranges.step c.before.before.args.a.overflow c.if1.true
@@ -30,7 +30,7 @@ returns-2 c =
 cast-within : tie.Need-overflow-cast-within
 cast-within c =
     let told = c.before.before in
-    kept-fits (sum_fits told) told.before.ranges.step c.before.if1.false c.if2.false
+    kept_fits (sum_fits told) told.before.ranges.step c.before.if1.false c.if2.false
 
 returns-3 : tie.Need-returns-3
 returns-3 c =

@@ -7,7 +7,7 @@ use borrow.Author.Rules.{rules}
 use lib.ListN.{length, get_or, set, take, drop, length-drop}
 use lib.Seq.{get_or-drop}
 use Rattle.translation.specs.KeyTable.{occurrences}
-use Rattle.translation.proofs.KeyTable.{Tallied, tallied_none, tallied-next, tallied-most}
+use Rattle.translation.proofs.KeyTable.{Tallied, tallied_none, tallied_next, tallied_most}
 use Rattle.translation.proofs.key_table.tally.Statement.{statement}
 use Rattle.translation.proofs.key_table.tally.Tie as tie
 
@@ -30,7 +30,7 @@ array-read-seen : tie.Need-array-read-seen invariant-loop decreases-loop
 array-read-seen c = omega (arith, (c.shared-slice-known.given c.before.before.loop.i).fits)
 
 add-seen : tie.Need-overflow-add-seen invariant-loop decreases-loop
-add-seen c = omega (arith, tallied-most c.before.before.loop.invariant.2 (c.shared-slice-known.given c.before.before.loop.i).fits)
+add-seen c = omega (arith, tallied_most c.before.before.loop.invariant.2 (c.shared-slice-known.given c.before.before.loop.i).fits)
 
 array-write-seen : tie.Need-array-write-seen invariant-loop decreases-loop
 array-write-seen c = omega (arith, (c.shared-slice-known.given c.before.before.loop.i).fits)
@@ -52,7 +52,7 @@ loop-again c =
       omega arith,
       omega arith,
       subst (λ (k : ℕ). Tallied (drop 1 table) k (set head.loop.seen (get_or table i 0) (get_or head.loop.seen (get_or table i 0) 0 + 1))) next
-          (tallied-next head.loop.invariant.2 (simp length-drop (omega arith)) entry (c.shared-slice-known.given i).fits),
+          (tallied_next head.loop.invariant.2 (simp length-drop (omega arith)) entry (c.shared-slice-known.given i).fits),
     )
 
 returns : tie.Need-returns invariant-loop decreases-loop

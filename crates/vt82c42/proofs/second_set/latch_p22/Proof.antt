@@ -2,7 +2,7 @@
 -- Assumes nothing.
 use mathlib.Core.Path.{refl}
 use borrow.Author.Rules.{rules}
-use Rattle.state.proofs.Laws.Changed.{by_rule, stored-highLatches}
+use Rattle.state.proofs.Laws.Changed.{by_rule, stored-high_latches}
 use Rattle.vt82c42.proofs.second_set.latch_p22.Statement.{statement}
 use Rattle.vt82c42.proofs.second_set.latch_p22.Tie as tie
 
@@ -19,7 +19,7 @@ element-write-s : tie.Need-element-write-s
 element-write-s c = search rules
 
 returns : tie.Need-returns
-returns c = by_rule (stored-highLatches (search rules) _ _ _ c.nibble.ensures.0) refl
+returns c = by_rule (stored-high_latches (search rules) _ _ _ c.nibble.ensures.0) refl
 
 pub latch-p22-spec : {M : Type 1} → statement M
 latch-p22-spec =

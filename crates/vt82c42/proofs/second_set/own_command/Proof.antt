@@ -2,7 +2,7 @@
 -- Assumes nothing.
 use borrow.Author.Rules.{rules}
 use Rattle.state.proofs.Laws.Changed.{by_rule}
-use Rattle.machine.proofs.Laws.SecondSet.{second-9x, second-Bx, second-Ex, second-single}
+use Rattle.machine.proofs.Laws.SecondSet.{second_9x, second-Bx, second-Ex, second-single}
 use Rattle.vt82c42.proofs.second_set.own_command.Statement.{statement}
 use Rattle.vt82c42.proofs.second_set.own_command.Tie as tie
 
@@ -28,7 +28,7 @@ single-command-requires : tie.Need-single-command-requires
 single-command-requires c κs = search rules
 
 returns : tie.Need-returns
-returns c = search (by_rule, second-9x)
+returns c = search (by_rule, second_9x)
 
 returns-2 : tie.Need-returns-2
 returns-2 c = search (by_rule, second-Bx)
