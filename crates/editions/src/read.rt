@@ -22,7 +22,7 @@ pub fn read_body(bytes: &[u8], body: &mut Body) -> u8
     let mut whole = [0u8; 64];
     whole[INPUT_LATCHES] = 0x3F;
     whole[HIGH_LATCHES] = 3;
-    bytes::copy(part, &mut whole);
+    byte_copy::copy(part, &mut whole);
     if !body_kept(&whole) {
         return BROKEN_BODY;
     }

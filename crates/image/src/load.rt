@@ -21,7 +21,7 @@ pub fn load_with_table(s: &mut State, version: u8, table: &[u8], bytes: &[u8]) -
     if number != 0 {
         return number;
     }
-    bytes::copy(&body, s);
+    byte_copy::copy(&body, s);
     0
 }
 

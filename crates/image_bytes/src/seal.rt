@@ -19,7 +19,7 @@ pub fn seal(edition: u8, body: &[u8], out: &mut [u8]) -> u8
     }
     let end = trailer(edition, body);
     let at = body.len();
-    bytes::copy(body, out);
-    bytes::copy(&end, &mut out[at..]);
+    byte_copy::copy(body, out);
+    byte_copy::copy(&end, &mut out[at..]);
     0
 }

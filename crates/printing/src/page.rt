@@ -27,7 +27,7 @@ fn print_refused(out: &mut [u8]) -> usize
     if out.len() < 10 {
         return 0;
     }
-    bytes::copy(b"refused 7\n", out)
+    byte_copy::copy(b"refused 7\n", out)
 }
 
 // The header, and a line for each nine bytes of the answers.
@@ -35,7 +35,7 @@ fn print_answers(count: usize, answers: &[u8], out: &mut [u8]) -> usize
     requires { (9 * count ≤ length answers.now) × (28 + 27 * count ≤ length out.old) }
     ensures { (result ≡ 28 + 27 * count) × (out.new ≡ over (header ++ lines count answers.now) out.old) }
 {
-    bytes::copy(b"rf rd old st p2 pu to fl fh\n", out);
+    byte_copy::copy(b"rf rd old st p2 pu to fl fh\n", out);
     write_lines(count, answers, &mut out[28..]);
     28 + 27 * count
 }

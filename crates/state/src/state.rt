@@ -79,7 +79,7 @@ fn with_table(s: State, table: &[u8]) -> State
     ensures { result ≡ take 65 s ++ table.now }
 {
     let mut tabled = s;
-    bytes::copy(table, &mut tabled[TABLE..]);
+    byte_copy::copy(table, &mut tabled[TABLE..]);
     tabled
 }
 

@@ -4,7 +4,7 @@ ghost use Rattle.trackball.specs.Counters as counters;
 ghost use Rattle.trackball.specs.View.{counter};
 
 // The steps since the last packet, added up, and whether an end was passed.
-#[derive(Drop)]
+#[derive(Clone, Copy)]
 pub struct Axis {
     pub sum: i16,
     pub overflow: bool,

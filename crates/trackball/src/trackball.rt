@@ -6,7 +6,7 @@ ghost use Rattle.trackball.specs.View.{view};
 use crate::counters::{Axis, stepped, still};
 
 // The buttons are bits 0-2; a packet has no other bit of them.
-#[derive(Drop)]
+#[derive(Clone, Copy)]
 pub struct Trackball {
     pub x: Axis,
     pub y: Axis,

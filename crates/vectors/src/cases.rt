@@ -112,7 +112,7 @@ fn run_repeated(text: &[u8], case: Case, list: &mut [u8]) -> Case {
 // The check of as many bytes of a table and a zero behind it.
 fn put_check(table: Table, length: usize) {
     let mut bytes = [0u8; 257];
-    bytes::copy(&table, &mut bytes);
+    byte_copy::copy(&table, &mut bytes);
     put_refusal(table_refusal(part(&bytes, 0, length)), b'\n');
 }
 

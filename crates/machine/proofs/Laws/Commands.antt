@@ -62,7 +62,7 @@ understood-known x c =
     (split (left_out x c) (λ h. ap (λ (t : Bool). left_out x (cond t 0 c)) h ∙ none) (λ h. ap (λ (t : Bool). left_out x (cond t 0 c)) h ∙ h))
   where
     none : left_out x 0 ≡ false
-    none = split x.second_set (λ t. simp (t, bool.and_false)) (λ t. simp (t, bool.and_false))
+    none = split x.second_set (λ t. simp (t, bool.and-false)) (λ t. simp (t, bool.and-false))
 
 module _ (x : Settings) (c : ℕ) {hidden : Bool} (is_hidden : hidden ≡ (x.at_mode && ps2_only c)) where
   pub understood_hidden : hidden ≡ true → 0 ≡ understood x c
