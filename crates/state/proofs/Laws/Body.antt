@@ -173,13 +173,13 @@ module _ (m : Machine) (short : length m.secret.code ≤ 16) where
 
 -- ---- the key table in its place
 -- 256 bytes copied over the last of a state, as the copy gives its part back
-pub table-put : (s t : List ℕ) {ys : List ℕ} → length s ≡ state_length → length t ≡ 256 → ys ≡ take (length t) t ++ drop (length t) (take 256 (drop 65 s)) →
+pub table-put : (s t : List ℕ) {ys : List ℕ} → length s ≡ state_length → length t ≡ 256 → ys ≡ t ++ drop (length t) (take 256 (drop 65 s)) →
     take 65 s ++ (ys ++ drop 256 (drop 65 s)) ≡ take 65 s ++ t
 table-put s t {ys} long whole copied =
     let none : drop 256 (drop 65 s) ≡ [] = drop_of_length-le (drop 65 s) {i = 256} (simp length-drop (omega arith)) in
     let past : drop (length t) (take 256 (drop 65 s)) ≡ [] = drop_of_length-le (take 256 (drop 65 s)) {i = length t} (simp length-take (omega arith)) in
     let all : ys ≡ t =
-    copied ∙ ap (λ (r : List ℕ). take (length t) t ++ r) past ∙ append-nil (take (length t) t) ∙ take_all (length t) t (omega arith) in
+    copied ∙ ap (λ (r : List ℕ). t ++ r) past ∙ append-nil t in
     ap₂ (λ (x y : List ℕ). take 65 s ++ (x ++ y)) all none ∙ ap (λ (r : List ℕ). take 65 s ++ r) (append-nil t)
 
 -- ---- fresh

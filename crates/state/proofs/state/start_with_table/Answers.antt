@@ -9,7 +9,7 @@ pub returns-then-refusal-ne0 : goal.returns-then-refusal-ne0
 returns-then-refusal-ne0 c = started-refused c.table_refusal-refusal.ensures c.if-refusal-ne0.true
 
 pub started-requires : goal.started-requires
-started-requires c κs = accepted-length _ (sym c.table_refusal-refusal.ensures ∙ c.if-refusal-ne0.false)
+started-requires c = accepted-length _ (sym c.table_refusal-refusal.ensures ∙ c.if-refusal-ne0.false)
 
 pub returns : goal.returns
 returns c =

@@ -7,4 +7,4 @@ use Rattle.state.proofs.state.with_table.Goals as goal
 pub returns : goal.returns
 returns c =
     let args = c.args in
-    table-put args.s args.table.now (search rules) (search rules) c.copy.ensures.1
+    table-put args.s args.table.now (search rules) (search rules) c.copy.ensures.copied
