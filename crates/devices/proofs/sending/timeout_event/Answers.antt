@@ -1,0 +1,18 @@
+-- `devices::sending::timeout_event` meets its contract. A refused event changes nothing; an accepted one does what the callee does.
+-- Assumes nothing.
+use mathlib.Core.Path.{refl}
+use Rattle.machine.specs.Events.{accept}
+use Rattle.state.proofs.Laws.Changed.{by_rule}
+use Rattle.state.proofs.Laws.Told.{met_accepted, met_refused}
+use Rattle.devices.proofs.sending.timeout_event.Goals as goal
+use Rattle.devices.proofs.sending.timeout_event.Goals.{then-number-eq0, else-number-eq0}
+
+pub returns : goal.returns
+unfolding accept
+returns c =
+    let checked = c.end_refusal-number.ensures.1 in
+    let told = c.quiet.ensures in
+    elim c.if-number-eq0.branch [
+      then-number-eq0 w ↦ met_accepted checked told w.if-number-eq0.true (refl, refl, refl) (by_rule w.timed_out.ensures refl) w.s-is
+    | else-number-eq0 w ↦ met_refused checked told w.if-number-eq0.false w.s-is
+    ]
