@@ -29,7 +29,7 @@ fn run_one(s: &mut State, list: &[u8], answers: &mut [u8])
 }
 
 // Four events make a level of the recursion, so that its test and its call cost each of them a quarter. Each lends the rest of list and buffer on.
-#[cycle(run_first_run_fourth_run_on_run_second_run_third)]
+#[cycle(run_fours)]
 fn run_first(s: &mut State, list: &[u8], answers: &mut [u8])
     requires { (12 ≤ length list.now) × (36 ≤ length answers.old) }
     ensures { FittingRun s.old list.now answers.old s.new answers.new }
@@ -38,7 +38,7 @@ fn run_first(s: &mut State, list: &[u8], answers: &mut [u8])
     run_second(s, &list[3..], &mut answers[9..]);
 }
 
-#[cycle(run_first_run_fourth_run_on_run_second_run_third)]
+#[cycle(run_fours)]
 fn run_second(s: &mut State, list: &[u8], answers: &mut [u8])
     requires { (9 ≤ length list.now) × (27 ≤ length answers.old) }
     ensures { FittingRun s.old list.now answers.old s.new answers.new }
@@ -47,7 +47,7 @@ fn run_second(s: &mut State, list: &[u8], answers: &mut [u8])
     run_third(s, &list[3..], &mut answers[9..]);
 }
 
-#[cycle(run_first_run_fourth_run_on_run_second_run_third)]
+#[cycle(run_fours)]
 fn run_third(s: &mut State, list: &[u8], answers: &mut [u8])
     requires { (6 ≤ length list.now) × (18 ≤ length answers.old) }
     ensures { FittingRun s.old list.now answers.old s.new answers.new }
@@ -56,7 +56,7 @@ fn run_third(s: &mut State, list: &[u8], answers: &mut [u8])
     run_fourth(s, &list[3..], &mut answers[9..]);
 }
 
-#[cycle(run_first_run_fourth_run_on_run_second_run_third)]
+#[cycle(run_fours)]
 fn run_fourth(s: &mut State, list: &[u8], answers: &mut [u8])
     requires { (3 ≤ length list.now) × (9 ≤ length answers.old) }
     ensures { FittingRun s.old list.now answers.old s.new answers.new }
@@ -66,7 +66,7 @@ fn run_fourth(s: &mut State, list: &[u8], answers: &mut [u8])
 }
 
 // What is left: four events, where there are so many and room for their answers, else one.
-#[cycle(run_first_run_fourth_run_on_run_second_run_third)]
+#[cycle(run_fours)]
 fn run_on(s: &mut State, list: &[u8], answers: &mut [u8])
     ensures { FittingRun s.old list.now answers.old s.new answers.new }
 {
