@@ -1,0 +1,12 @@
+-- `image::save::save` meets its contract. The state's first bytes are written as an image.
+-- Assumes nothing.
+use native.Mathlib.Omega.{arith}
+use lib.ListN.{length-take}
+use Rattle.image.proofs.Laws.Promises.{saved_written}
+use Rattle.image.proofs.save.save.Goals as goal
+
+pub slice_bounds-seal-end : goal.slice_bounds-seal-end
+slice_bounds-seal-end c = simp length-take (omega arith)
+
+pub returns : goal.returns
+returns c = saved_written c.state-1.given.0 c.seal.ensures

@@ -1,0 +1,13 @@
+-- `printing::page::print_refused` meets its contract: with ten bytes of room the text is copied to the front, and else nothing is written.
+-- Assumes nothing.
+use Rattle.printing.specs.Page.{refused_text}
+use Rattle.printing.proofs.Laws.Page.{written_none, written_all}
+use Rattle.printing.proofs.page.print_refused.Goals as goal
+
+pub returns-then-out-lt10 : goal.returns-then-out-lt10
+unfolding refused_text
+returns-then-out-lt10 c = search written_none
+
+pub returns : goal.returns
+unfolding refused_text
+returns c = search written_all

@@ -1,0 +1,7 @@
+-- `secrecy::compare::run_both` meets its contract. Each run is pinned to the machine from fresh, and the theorem on paired lists gives equal answers.
+-- Assumes nothing.
+use Rattle.secrecy.proofs.Compared.{compared}
+use Rattle.secrecy.proofs.compare.run_both.Goals as goal
+
+pub returns : goal.returns
+returns c = search compared
