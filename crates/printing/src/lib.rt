@@ -2,5 +2,5 @@
 #![tactic(auto)]
 
 pub mod hex;
-mod lines;
 pub mod page;
+mod text_lines;

@@ -5,7 +5,7 @@ ghost use Rattle.machine.specs.Settings.{settings_of};
 ghost use Rattle.printing.specs.Lines.{lines};
 ghost use Rattle.printing.specs.Page.{header, refused_text, refused_length, over, Written, Printed};
 
-use crate::lines::write_lines;
+use crate::text_lines::write_lines;
 use controller::run::{list_refusal, run_fresh};
 
 // The checks that refuse to print a list.

@@ -1,5 +1,6 @@
 -- `image::save::save` meets its contract. The state's first bytes are written as an image.
 -- Assumes nothing.
+use borrow.Author.Rules.{rules}
 use native.Mathlib.Omega.{arith}
 use lib.ListN.{length-take}
 use Rattle.image.proofs.Laws.Promises.{saved_written}
@@ -9,4 +10,4 @@ pub slice_bounds-seal-end : goal.slice_bounds-seal-end
 slice_bounds-seal-end c = simp length-take (omega arith)
 
 pub returns : goal.returns
-returns c = saved_written c.state-1.given.0 c.seal.ensures
+returns c = saved_written (search rules) c.seal.ensures
