@@ -1,7 +1,7 @@
 -- "Events", kind 1, and "Commands": what a byte written to port 60h does under each pending code.
-use Rattle.std.specs.Prelude.{ℕ, ◌%◌, Bool, true, false, cond, List, [], ◌∷◌, ◌++◌, length, set, eqb, leb}
+use Rattle.std.specs.Prelude.{ℕ, ◌%◌, Bool, false, cond, [], ◌∷◌, ◌++◌, length, set, eqb, leb}
 use Rattle.translation.specs.Bits.{has}
-use Rattle.machine.specs.State.{Public, Host, Machine, with_host, with_ports, with_ram, with_sending, lift, with_secret}
+use Rattle.machine.specs.State.{Public, Machine, with_host, with_ports, with_ram, with_sending, lift, with_secret}
 use Rattle.machine.specs.State.{with_pending, with_command_flag, with_low_latches, with_high_latches}
 use Rattle.machine.specs.Lines.{at_mode, second_set, put, put_mouse, with_mode, keyboard_enabled}
 

@@ -1,7 +1,7 @@
 -- "Events", "Refusing" 1-6, document 02's check 12, and "Answers": one event, the machine after it and its nine answer bytes.
-use Rattle.std.specs.Prelude.{ℕ, ◌/◌, ◌%◌, Bool, true, false, cond, not, ◌&&◌, ◌||◌, List, [], ◌∷◌, eqb, leb, ltb}
+use Rattle.std.specs.Prelude.{ℕ, ◌/◌, ◌%◌, Bool, false, cond, not, ◌&&◌, ◌||◌, List, [], ◌∷◌, eqb, ltb}
 use Rattle.translation.specs.Frames.{check, frame}
-use Rattle.machine.specs.State.{Public, Output, Machine, with_output, lift}
+use Rattle.machine.specs.State.{Public, Machine, with_output, lift}
 use Rattle.translation.specs.Bits.{weight, word}
 use Rattle.machine.specs.Lines.{at_mode, status, output_port, input_full, keyboard_off, mouse_off}
 use Rattle.machine.specs.DataPort.{write_data}

@@ -2,7 +2,7 @@
 use Rattle.std.specs.Prelude.{ℕ, ◌+◌, ◌*◌, ◌%◌, Bool, true, false, cond, not, ◌&&◌, get_or, set, eqb}
 use Rattle.std.specs.Int.Bits.{bit_and, bit_or}
 use Rattle.translation.specs.Bits.{has, set_bit, clear_bit, nibble}
-use Rattle.machine.specs.State.{Public, Output, with_output, with_ram}
+use Rattle.machine.specs.State.{Public, with_output, with_ram}
 
 -- started in AT mode (document 02, W3), else in PS/2 mode
 abbrev pub at_mode : Public → Bool

@@ -1,5 +1,5 @@
 -- "Answers": a list of events, and the checks 7 and 8 of a call that runs one.
-use Rattle.std.specs.Prelude.{ℕ, ◌*◌, ◌/◌, ◌%◌, Bool, cond, not, ◌||◌, List, [], ◌∷◌, ◌++◌, length, get_or, take, drop, eqb, ltb}
+use Rattle.std.specs.Prelude.{ℕ, ◌*◌, ◌/◌, ◌%◌, cond, not, ◌||◌, List, [], ◌∷◌, ◌++◌, length, get_or, take, drop, eqb, ltb}
 use Rattle.machine.specs.State.{Machine}
 use Rattle.machine.specs.Events.{Event, event, step, answer}
 

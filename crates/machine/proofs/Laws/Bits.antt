@@ -6,7 +6,7 @@ use mathlib.Core.Bool.{Bool, true, false}
 use native.Mathlib.Omega.{arith}
 use lib.Dec.{eqb}
 use borrow.Author.Tests.{eqb-true, eqb-false}
-use Rattle.translation.specs.Bits.{bit, has, weight, nibble}
+use Rattle.translation.specs.Bits.{has, weight, nibble}
 use Rattle.machine.proofs.Laws.Bounds.{weight_le}
 use Rattle.translation.proofs.Tests.{split}
 

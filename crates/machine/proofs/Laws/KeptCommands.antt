@@ -12,7 +12,7 @@ use Rattle.machine.specs.State.{Machine, lift}
 use Rattle.translation.specs.Bits.{within, clear_bit}
 use Rattle.machine.specs.Lines.{second_set, mode, input_port}
 use Rattle.machine.specs.SecondSet.{second_only}
-use Rattle.machine.specs.Commands.{first_only, understood, polled, pending_of, cell_named, command_written, load_cut, overlaid, self_tested, plain_command}
+use Rattle.machine.specs.Commands.{understood, polled, pending_of, cell_named, command_written, load_cut, overlaid, self_tested, plain_command}
 use Rattle.machine.specs.Commands.{has_code, code_asked, lock_set, lock_command, acts, write_command}
 use Rattle.machine.specs.Kept.{Kept}
 use Rattle.machine.proofs.Laws.Cond.{cond-holds, cond_both, not_both}

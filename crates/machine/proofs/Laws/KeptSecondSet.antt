@@ -8,7 +8,7 @@ use lib.Dec.{eqb, leb, ltb}
 use borrow.Author.Tests.{ltb-true}
 use Rattle.translation.proofs.Tests.{split}
 use Rattle.machine.specs.State.{Ports, Machine, lift, with_ports}
-use Rattle.translation.specs.Bits.{within, weight}
+use Rattle.translation.specs.Bits.{within}
 use Rattle.machine.specs.Lines.{at_mode, second_set}
 use Rattle.machine.specs.SecondSet.{second_only, line_written, single_command, second_command}
 use Rattle.machine.specs.Kept.{Kept}

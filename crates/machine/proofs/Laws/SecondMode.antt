@@ -19,7 +19,7 @@ use Rattle.machine.specs.Devices.{errors_set, breaking, damaged_key, key_error, 
 use Rattle.machine.specs.Devices.{taken, timed_out, pinned}
 use Rattle.machine.specs.Events.{Event, value, refusal, emptied, accept, step}
 use Rattle.machine.specs.Run.{after}
-use Rattle.machine.specs.Modes.{SecondPublic, SecondMachine}
+use Rattle.machine.specs.Modes.{SecondMachine}
 use Rattle.machine.proofs.Laws.Cond.{cond-holds, cond_both, not_both}
 use Rattle.machine.proofs.Laws.Commands.{understood-known}
 use Rattle.machine.proofs.Laws.KeptCommands.{pending_of-load}

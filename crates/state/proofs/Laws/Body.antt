@@ -5,7 +5,7 @@ use mathlib.Core.List.{List, [], ◌∷◌, ◌++◌, append_assoc, append-nil}
 use Prim.Native.Nat.{ℕ, zero, suc, ◌+◌, ◌-◌, ◌≤◌, ◌<◌}
 use native.Mathlib.Omega.{arith}
 use lib.ListN.{length, get_or, take, drop, set, replicate, length-append, length-replicate, length-take, length-drop, drop_of_length-le, take-append-drop}
-use lib.Seq.{take_at, drop_at, take_all, drop-drop, take-append_seam, drop-append_seam, take-add, drop-cons, get_or-take, get_or-drop}
+use lib.Seq.{take_at, drop_at, drop-drop, take-append_seam, drop-append_seam, take-add, drop-cons, get_or-take, get_or-drop}
 use Rattle.translation.specs.Bits.{has, nibble}
 use Rattle.machine.specs.Settings.{Settings, settings_of}
 use Rattle.machine.specs.State.{Public, Machine, fresh}

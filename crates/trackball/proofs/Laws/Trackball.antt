@@ -1,6 +1,6 @@
 -- What is in range stays in range, whatever is moved, sent or reported. Assumes nothing.
-use Prim.Native.Nat.{ℕ, ◌%◌, ◌<◌}
-use mathlib.Core.Path.{◌≡◌, refl, subst, sym}
+use Prim.Native.Nat.{ℕ}
+use mathlib.Core.Path.{refl, subst, sym}
 use mathlib.Core.Bool.{Bool, true, false, cond}
 use native.Mathlib.Omega.{arith}
 use lib.IntN.{ℤ, ◌+ℤ◌}

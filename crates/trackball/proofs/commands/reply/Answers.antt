@@ -1,6 +1,5 @@
 -- `trackball::commands::reply` meets its contract: an arm for each case of the definition.
 -- Assumes nothing.
-use borrow.Author.Rules.{rules}
 use mathlib.Core.Path.{ap, ◌∙◌}
 use Rattle.trackball.specs.Trackball.{without_movement}
 use Rattle.trackball.specs.View.{view}
