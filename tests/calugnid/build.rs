@@ -8,7 +8,7 @@ use std::path::PathBuf;
 fn folder() -> PathBuf {
     match env::var_os("CALUGNID_LIBRARY_DIR") {
         Some(folder) => PathBuf::from(folder),
-        None => PathBuf::from(env!("CARGO_MANIFEST_DIR")).join("../../target/staticlib"),
+        None => PathBuf::from(env!("CARGO_MANIFEST_DIR")).join("../../crates/calugnid/out"),
     }
 }
 
