@@ -1,22 +1,34 @@
 // Reads a list of events to the end of standard input, and prints its page.
 #![tactic(auto)]
 
-use libc::{STDIN_FILENO, STDOUT_FILENO};
+ghost use Rattle.std.specs.Prelude.{◌≡◌, take, IfSome, IfOk};
+
 use printing::page::print_list;
+use std::alloc::Global;
+use std::io;
+use std::io::Read;
 
 // One byte more than the longest list, so that a longer input is noticed.
-const READ_MOST: usize = 21001;
+const READ_MOST: u64 = 21001;
 // The answers to 7,000 events, nine bytes each.
 const ANSWERS: usize = 63000;
 // Their page: a header of 28 bytes, and 27 a line.
 const PAGE: usize = 189028;
 
-fn main() {
-    let mut list = [0u8; READ_MOST];
+// The whole input, or as much of it as is looked at.
+fn read_list<R: Read + Drop>(alloc: Global, input: R) -> io::Result<Vec<u8>>
+    ensures { IfOk result (λ list. IfSome (R.remaining input) (λ bytes. list.items ≡ take READ_MOST bytes)) }
+{
+    let mut list = Vec::new(alloc);
+    input.take(READ_MOST).read_to_end(&mut list)?;
+    Ok(list)
+}
+
+fn main(rt: HostRuntime) -> io::Result<()> {
+    let list = read_list(rt.alloc(), rt.reader())?;
     let mut answers = [0u8; ANSWERS];
     let mut page = [0u8; PAGE];
-    let got = io::read_full(STDIN_FILENO, &mut list);
-    let printed = print_list(0, 0, &list[..got], &mut answers, &mut page);
+    let printed = print_list(0, 0, &list, &mut answers, &mut page);
     let length = printed.written;
-    io::write_all(STDOUT_FILENO, &page[..length]);
+    rt.write_all(&page[..length])
 }

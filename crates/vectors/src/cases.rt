@@ -1,9 +1,16 @@
 // The cases of the lists, read from standard input. How they are written is said there.
+ghost use Rattle.std.specs.Prelude.{◌≡◌, take, IfSome, IfOk};
+
 use crate::lists::{Case, LIST_SIZE, SPACE_SIZE, put_refusal, run_sized, run_whole};
 use crate::print::put;
 use crate::text::{decimal, find, hexadecimal, key, part};
-use libc::STDIN_FILENO;
+use std::alloc::{AllocError, Global};
+use std::io;
+use std::io::Read;
 use translation::key_table::{Table, built_in, table_refusal};
+
+// One byte more than all the cases may have, so that a longer input is noticed.
+const READ_MOST: usize = 65536;
 
 // The first words of lines, as numbers.
 const NAME: u64 = 0x6E61_6D65;
@@ -39,9 +46,9 @@ fn malformed(mut case: Case) -> Case {
     case
 }
 
-fn name(text: &[u8]) -> Case {
-    put(text);
-    ordinary()
+fn name(out: &mut Vec<u8>, text: &[u8]) -> Result<Case, AllocError> {
+    put(out, text)?;
+    Ok(ordinary())
 }
 
 // The options byte and the version byte.
@@ -82,106 +89,127 @@ fn events(text: &[u8], mut case: Case, list: &mut [u8]) -> Case {
 
 // The first n bytes of a list over and over.
 fn repeat(list: &mut [u8], n: usize) {
-    let mut i = n;
-    while i < list.len() {
+    for i in n..list.len() {
         list[i] = list[i - n];
-        i += 1;
     }
 }
 
 // The list over and over: that many bytes of it, with that much space for the answers.
-fn run_repeated(text: &[u8], case: Case, list: &mut [u8]) -> Case {
+fn run_repeated(
+    out: &mut Vec<u8>,
+    text: &[u8],
+    case: Case,
+    list: &mut [u8],
+) -> Result<Case, AllocError> {
     let at = find(text, 0, b' ');
     let bytes = decimal(part(text, 0, at));
     let space = decimal(part(text, at + 1, text.len()));
     if list.len() < bytes {
-        return malformed(case);
+        return Ok(malformed(case));
     }
     if SPACE_SIZE < space {
-        return malformed(case);
+        return Ok(malformed(case));
     }
     let filled = case.filled;
     if filled == 0 {
-        return malformed(case);
+        return Ok(malformed(case));
     }
     repeat(list, filled);
-    run_sized(case, part(list, 0, bytes), space);
-    case
+    run_sized(out, &case, part(list, 0, bytes), space)?;
+    Ok(case)
 }
 
 // The check of as many bytes of a table and a zero behind it.
-fn put_check(table: Table, length: usize) {
+fn put_check(out: &mut Vec<u8>, table: &Table, length: usize) -> Result<(), AllocError> {
     let mut bytes = [0u8; 257];
-    byte_copy::copy(&table, &mut bytes);
-    put_refusal(table_refusal(part(&bytes, 0, length)), b'\n');
+    byte_copy::copy(table, &mut bytes);
+    put_refusal(out, table_refusal(part(&bytes, 0, length)), b'\n')
 }
 
-fn check(text: &[u8], case: Case) -> Case {
+fn check(out: &mut Vec<u8>, text: &[u8], case: Case) -> Result<Case, AllocError> {
     let length = decimal(text);
     if 257 < length {
-        return malformed(case);
+        return Ok(malformed(case));
     }
-    let table = case.table;
-    put_check(table, length);
-    case
+    put_check(out, &case.table, length)?;
+    Ok(case)
 }
 
 // A line by its first word and what stands behind it.
-fn obey(word: u64, rest: &[u8], case: Case, list: &mut [u8; LIST_SIZE]) -> Case {
+fn obey(
+    out: &mut Vec<u8>,
+    word: u64,
+    rest: &[u8],
+    case: Case,
+    list: &mut [u8; LIST_SIZE],
+) -> Result<Case, AllocError> {
     match word {
-        NAME => name(rest),
-        START => start(rest, case),
-        ENTRY => entry(rest, case),
-        EVENTS => events(rest, case, list),
-        RUN => run_whole(case, list),
-        REPEAT => run_repeated(rest, case, list),
-        CHECK => check(rest, case),
-        _ => malformed(case),
+        NAME => name(out, rest),
+        START => Ok(start(rest, case)),
+        ENTRY => Ok(entry(rest, case)),
+        EVENTS => Ok(events(rest, case, list)),
+        RUN => run_whole(out, case, list),
+        REPEAT => run_repeated(out, rest, case, list),
+        CHECK => check(out, rest, case),
+        _ => Ok(malformed(case)),
     }
 }
 
 // The comparison with what is expected fails at a line that could not be read.
-fn put_unsound(line: &[u8], sound: bool) {
+fn put_unsound(out: &mut Vec<u8>, line: &[u8], sound: bool) -> Result<(), AllocError> {
     if sound {
-        return;
+        return Ok(());
     }
-    put(b"\nmalformed: ");
-    put(line);
-    put(b"\n");
+    put(out, b"\nmalformed: ")?;
+    put(out, line)?;
+    put(out, b"\n")
 }
 
 // A line, and the case behind it. An empty one stands for nothing, as one that is there for the reader.
-fn run_line(line: &[u8], mut case: Case, list: &mut [u8; LIST_SIZE]) -> Case {
+fn run_line(
+    out: &mut Vec<u8>,
+    line: &[u8],
+    mut case: Case,
+    list: &mut [u8; LIST_SIZE],
+) -> Result<Case, AllocError> {
     let at = find(line, 0, b' ');
     let word = key(part(line, 0, at));
     if word == 0 {
-        return case;
+        return Ok(case);
     }
     if word == COMMENT {
-        return case;
+        return Ok(case);
     }
     case.sound = true;
-    let next = obey(word, part(line, at + 1, line.len()), case, list);
-    put_unsound(line, next.sound);
-    next
+    let next = obey(out, word, part(line, at + 1, line.len()), case, list)?;
+    put_unsound(out, line, next.sound)?;
+    Ok(next)
 }
 
-fn run_lines(text: &[u8]) {
+fn run_lines(out: &mut Vec<u8>, text: &[u8]) -> Result<(), AllocError> {
     let mut list = [0u8; LIST_SIZE];
     let mut case = ordinary();
     let mut from = 0;
     while from < text.len() {
         let end = find(text, from, b'\n');
-        case = run_line(part(text, from, end), case, &mut list);
+        case = run_line(out, part(text, from, end), case, &mut list)?;
         from = end + 1;
     }
+    Ok(())
 }
 
-pub fn run_all() {
-    let mut text = io::large_buffer();
-    let n = io::read_full(STDIN_FILENO, &mut text);
-    if n == 65536 {
-        put(b"more cases than fit\n");
+// The whole input, or as much of it as is looked at.
+pub fn read_all<R: Read + Drop>(alloc: Global, input: R) -> io::Result<Vec<u8>>
+    ensures { IfOk result (λ text. IfSome (R.remaining input) (λ bytes. text.items ≡ take READ_MOST bytes)) }
+{
+    let mut text = Vec::new(alloc);
+    input.take(READ_MOST as u64).read_to_end(&mut text)?;
+    Ok(text)
+}
+
+pub fn run_all(out: &mut Vec<u8>, text: &[u8]) -> Result<(), AllocError> {
+    if text.len() == READ_MOST {
+        put(out, b"more cases than fit\n")?;
     }
-    run_lines(&text[..n]);
+    run_lines(out, text)
 }

@@ -1,50 +1,52 @@
 // The verdict on each number of eleven bits, and the translation of each byte with the break flag clear and set.
 use crate::print::{digit, put, put_byte};
+use std::alloc::AllocError;
 use translation::frames::Verdict;
 use translation::key_table::built_in_entry;
 use translation::scan_codes::Yield;
 use translation::{frames, scan_codes};
 
-fn put_flag(flag: bool, end: u8) {
-    put(&[digit(flag as u8), end]);
+fn put_flag(out: &mut Vec<u8>, flag: bool, end: u8) -> Result<(), AllocError> {
+    put(out, &[digit(flag as u8), end])
 }
 
-fn put_frame(f: u16) {
-    put(&[digit((f / 256 % 16) as u8)]);
-    put_byte((f % 256) as u8, b' ');
+fn put_frame(out: &mut Vec<u8>, f: u16) -> Result<(), AllocError> {
+    put(out, &[digit((f / 256 % 16) as u8)])?;
+    put_byte(out, (f % 256) as u8, b' ')?;
     match frames::judge(f) {
         Verdict::Sound(byte) => {
-            put(b"sound ");
-            put_byte(byte, b'\n');
+            put(out, b"sound ")?;
+            put_byte(out, byte, b'\n')
         }
-        Verdict::Parity => put(b"parity\n"),
-        Verdict::Broken => put(b"broken\n"),
-        Verdict::Noise => put(b"noise\n"),
+        Verdict::Parity => put(out, b"parity\n"),
+        Verdict::Broken => put(out, b"broken\n"),
+        Verdict::Noise => put(out, b"noise\n"),
     }
 }
 
-fn put_code(byte: u8, breaks: bool) {
-    put_byte(byte, b' ');
-    put_flag(breaks, b' ');
+fn put_code(out: &mut Vec<u8>, byte: u8, breaks: bool) -> Result<(), AllocError> {
+    put_byte(out, byte, b' ')?;
+    put_flag(out, breaks, b' ')?;
     let after = scan_codes::translate(built_in_entry(byte), byte, breaks);
     let yields = after.yields;
     match yields {
-        Yield::Nothing => put(b"-- "),
-        Yield::Byte(code) => put_byte(code, b' '),
+        Yield::Nothing => put(out, b"-- ")?,
+        Yield::Byte(code) => put_byte(out, code, b' ')?,
     }
-    put_flag(after.breaks, b'\n');
+    put_flag(out, after.breaks, b'\n')
 }
 
-fn put_codes(breaks: bool) {
+fn put_codes(out: &mut Vec<u8>, breaks: bool) -> Result<(), AllocError> {
     for byte in 0..=255 {
-        put_code(byte, breaks);
+        put_code(out, byte, breaks)?;
     }
+    Ok(())
 }
 
-pub fn put_all() {
+pub fn put_all(out: &mut Vec<u8>) -> Result<(), AllocError> {
     for f in 0..2048 {
-        put_frame(f);
+        put_frame(out, f)?;
     }
-    put_codes(false);
-    put_codes(true);
+    put_codes(out, false)?;
+    put_codes(out, true)
 }

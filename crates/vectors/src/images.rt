@@ -12,7 +12,7 @@ use state::state::{
     CODE, FLAGS, HIGH_LATCHES, INPUT_LATCHES, LATCHES, LENGTH, OPTIONS, OUTPUT, PINS, RAM, State,
     TTIM, VERSION, start,
 };
-use std::num::wrapping_add_u16;
+use std::alloc::AllocError;
 
 // What a space holds before a save.
 const FILL: u8 = 0xEE;
@@ -93,12 +93,10 @@ fn flags() -> u8 {
 // A lock code of n bytes, sixteen at most.
 fn put_code(s: &mut State, n: u8) {
     s[LENGTH] = n;
-    let mut i = 0;
-    while i < 16 {
+    for i in 0..16 {
         if i < n as usize {
             s[CODE + i] = 0x1E;
         }
-        i += 1;
     }
 }
 
@@ -136,47 +134,43 @@ fn word(low: u8, high: u8) -> u16 {
 // The bytes added up.
 fn added(bytes: &[u8]) -> u64 {
     let mut total: u16 = 0;
-    let mut i = 0;
-    while i < bytes.len() {
-        total = wrapping_add_u16(total, word(bytes[i], 0));
-        i += 1;
+    for byte in bytes {
+        total = total.wrapping_add(word(*byte, 0));
     }
     total as u64
 }
 
-fn put_value(x: u8) {
-    put_number(x as u64);
+fn put_value(out: &mut Vec<u8>, x: u8) -> Result<(), AllocError> {
+    put_number(out, x as u64)
 }
 
-fn put_line(refusal: u8, bytes: &[u8]) {
-    put_value(refusal);
-    put_number(added(bytes));
-    put(b"\n");
+fn put_line(out: &mut Vec<u8>, refusal: u8, bytes: &[u8]) -> Result<(), AllocError> {
+    put_value(out, refusal)?;
+    put_number(out, added(bytes))?;
+    put(out, b"\n")
 }
 
-fn try_save(out: &mut [u8]) {
-    put(b"save");
-    put_number(out.len() as u64);
+fn try_save(out: &mut Vec<u8>, space: &mut [u8]) -> Result<(), AllocError> {
+    put(out, b"save")?;
+    put_number(out, space.len() as u64)?;
     let s = sample(3);
-    let refusal = save(&s, out);
-    put_line(refusal, out);
+    let refusal = save(&s, space);
+    put_line(out, refusal, space)
 }
 
-fn try_load(bytes: &[u8]) {
+fn try_load(out: &mut Vec<u8>, bytes: &[u8]) -> Result<(), AllocError> {
     let mut s = start(0, 0);
     let refusal = load(&mut s, GIVEN, bytes);
-    let mut out = [0u8; 72];
-    save(&s, &mut out);
-    put_line(refusal, &out);
+    let mut image = [0u8; 72];
+    save(&s, &mut image);
+    put_line(out, refusal, &image)
 }
 
 // An image with the sum of its body put right.
 fn summed(mut image: [u8; 72]) -> [u8; 72] {
     let mut total: u16 = 0;
-    let mut i = 0;
-    while i < 32 {
-        total = wrapping_add_u16(total, word(image[2 * i], image[2 * i + 1]));
-        i += 1;
+    for i in 0..32 {
+        total = total.wrapping_add(word(image[2 * i], image[2 * i + 1]));
     }
     image[66] = (total % 256) as u8;
     image[67] = (total / 256) as u8;
@@ -197,65 +191,69 @@ fn other(x: u8) -> u8 {
     x / 2 + 99
 }
 
-fn try_saves() {
+fn try_saves(out: &mut Vec<u8>) -> Result<(), AllocError> {
     let mut short = [FILL; 71];
-    try_save(&mut short);
+    try_save(out, &mut short)?;
     let mut whole = [FILL; 72];
-    try_save(&mut whole);
+    try_save(out, &mut whole)?;
     let mut long = [FILL; 76];
-    try_save(&mut long);
+    try_save(out, &mut long)
 }
 
 // An image behind 31 bytes and before one.
 fn placed(image: [u8; 72]) -> [u8; 104] {
     let mut bytes = [FILL; 104];
-    let mut i = 0;
-    while i < 72 {
+    for i in 0..72 {
         bytes[31 + i] = image[i];
-        i += 1;
     }
     bytes
 }
 
-fn try_place(name: &[u8], bytes: &[u8], from: usize, to: usize) {
-    put(name);
-    try_load(part(bytes, from, to));
+fn try_place(
+    out: &mut Vec<u8>,
+    name: &[u8],
+    bytes: &[u8],
+    from: usize,
+    to: usize,
+) -> Result<(), AllocError> {
+    put(out, name)?;
+    try_load(out, part(bytes, from, to))
 }
 
-fn try_find(name: &[u8], bytes: &[u8]) {
-    put(name);
+fn try_find(out: &mut Vec<u8>, name: &[u8], bytes: &[u8]) -> Result<(), AllocError> {
+    put(out, name)?;
     let body = find(bytes);
-    put_number(body.len() as u64);
-    put_number(added(body));
-    put(b"\n");
+    put_number(out, body.len() as u64)?;
+    put_number(out, added(body))?;
+    put(out, b"\n")
 }
 
 // The image by itself, cut short, behind other bytes, and before one.
-fn try_places(bytes: &[u8]) {
-    try_place(b"load whole", bytes, 31, 103);
-    try_place(b"load short", bytes, 32, 103);
-    try_place(b"load behind", bytes, 0, 103);
-    try_place(b"load before", bytes, 0, 104);
-    try_find(b"find", part(bytes, 0, 103));
+fn try_places(out: &mut Vec<u8>, bytes: &[u8]) -> Result<(), AllocError> {
+    try_place(out, b"load whole", bytes, 31, 103)?;
+    try_place(out, b"load short", bytes, 32, 103)?;
+    try_place(out, b"load behind", bytes, 0, 103)?;
+    try_place(out, b"load before", bytes, 0, 104)?;
+    try_find(out, b"find", part(bytes, 0, 103))
 }
 
 // A byte of the trailer changed.
-fn try_trailer(image: [u8; 72], k: u8) {
+fn try_trailer(out: &mut Vec<u8>, image: [u8; 72], k: u8) -> Result<(), AllocError> {
     let at = k as usize;
     if at < 72 {
         let changed = with_byte(image, k, other(image[at]));
-        put(b"trailer");
-        put_value(k);
-        try_load(&changed);
+        put(out, b"trailer")?;
+        put_value(out, k)?;
+        try_load(out, &changed)?;
     }
+    Ok(())
 }
 
-fn try_trailers(image: [u8; 72]) {
-    let mut i: u8 = 64;
-    while i < 72 {
-        try_trailer(image, i);
-        i += 1;
+fn try_trailers(out: &mut Vec<u8>, image: [u8; 72]) -> Result<(), AllocError> {
+    for k in 64..72 {
+        try_trailer(out, image, k)?;
     }
+    Ok(())
 }
 
 // The low byte of a row.
@@ -267,12 +265,12 @@ fn tried(i: usize) -> u32 {
     if i < BODIES { TRIED[i] } else { 0 }
 }
 
-fn put_row(row: u32) {
-    put(b"body");
-    put_value(low(row / 0x100_0000));
-    put_value(low(row / 0x1_0000));
-    put_value(low(row / 0x100));
-    put_value(low(row));
+fn put_row(out: &mut Vec<u8>, row: u32) -> Result<(), AllocError> {
+    put(out, b"body")?;
+    put_value(out, low(row / 0x100_0000))?;
+    put_value(out, low(row / 0x1_0000))?;
+    put_value(out, low(row / 0x100))?;
+    put_value(out, low(row))
 }
 
 // The image with what a row says, and the sum of its body right.
@@ -281,32 +279,31 @@ fn with_row(image: [u8; 72], row: u32) -> [u8; 72] {
     summed(with_byte(once, low(row / 0x100), low(row)))
 }
 
-fn try_body(image: [u8; 72], row: u32) {
-    put_row(row);
-    try_load(&with_row(image, row));
+fn try_body(out: &mut Vec<u8>, image: [u8; 72], row: u32) -> Result<(), AllocError> {
+    put_row(out, row)?;
+    try_load(out, &with_row(image, row))
 }
 
-fn try_bodies(image: [u8; 72]) {
-    let mut i = 0;
-    while i < BODIES {
-        try_body(image, tried(i));
-        i += 1;
+fn try_bodies(out: &mut Vec<u8>, image: [u8; 72]) -> Result<(), AllocError> {
+    for i in 0..BODIES {
+        try_body(out, image, tried(i))?;
     }
+    Ok(())
 }
 
-fn try_image(name: &[u8], image: [u8; 72]) {
-    put(name);
-    try_load(&image);
+fn try_image(out: &mut Vec<u8>, name: &[u8], image: [u8; 72]) -> Result<(), AllocError> {
+    put(out, name)?;
+    try_load(out, &image)
 }
 
 // Lock codes of no byte and of sixteen: locked, and a length of seventeen.
-fn try_codes() {
+fn try_codes(out: &mut Vec<u8>) -> Result<(), AllocError> {
     let none = image_of(0);
-    try_image(b"code none", none);
-    try_image(b"code none locked", summed(with_byte(none, 1, 0x40)));
+    try_image(out, b"code none", none)?;
+    try_image(out, b"code none locked", summed(with_byte(none, 1, 0x40)))?;
     let most = image_of(16);
-    try_image(b"code sixteen", most);
-    try_image(b"code seventeen", summed(with_byte(most, 10, 17)));
+    try_image(out, b"code sixteen", most)?;
+    try_image(out, b"code seventeen", summed(with_byte(most, 10, 17)))
 }
 
 // The front of an image as one of edition 1.
@@ -316,53 +313,68 @@ fn old_of(image: [u8; 72]) -> [u8; 68] {
     old
 }
 
-fn try_forward(name: &[u8], bytes: &[u8], out: &mut [u8]) {
-    put(name);
-    let refusal = to_second(bytes, out);
-    put_line(refusal, out);
+fn try_forward(
+    out: &mut Vec<u8>,
+    name: &[u8],
+    bytes: &[u8],
+    space: &mut [u8],
+) -> Result<(), AllocError> {
+    put(out, name)?;
+    let refusal = to_second(bytes, space);
+    put_line(out, refusal, space)
 }
 
-fn try_back(name: &[u8], bytes: &[u8], out: &mut [u8]) {
-    put(name);
-    let refusal = to_first(bytes, out);
-    put_line(refusal, out);
+fn try_back(
+    out: &mut Vec<u8>,
+    name: &[u8],
+    bytes: &[u8],
+    space: &mut [u8],
+) -> Result<(), AllocError> {
+    put(out, name)?;
+    let refusal = to_first(bytes, space);
+    put_line(out, refusal, space)
 }
 
 // An image of edition 1 loaded, found and moved.
-fn try_forwards(old: [u8; 68], new: [u8; 72]) -> [u8; 72] {
-    put(b"old whole");
-    try_load(&old);
-    try_find(b"old find", &old);
+fn try_forwards(out: &mut Vec<u8>, old: [u8; 68], new: [u8; 72]) -> Result<[u8; 72], AllocError> {
+    put(out, b"old whole")?;
+    try_load(out, &old)?;
+    try_find(out, b"old find", &old)?;
     let mut whole = [FILL; 72];
-    try_forward(b"forward whole", &old, &mut whole);
+    try_forward(out, b"forward whole", &old, &mut whole)?;
     let mut short = [FILL; 71];
-    try_forward(b"forward short", &old, &mut short);
+    try_forward(out, b"forward short", &old, &mut short)?;
     let mut other = [FILL; 72];
-    try_forward(b"forward new", &new, &mut other);
-    whole
+    try_forward(out, b"forward new", &new, &mut other)?;
+    Ok(whole)
 }
 
 // What it moved to moved back, and images that have no way back.
-fn try_backs(moved: [u8; 72], new: [u8; 72], old: [u8; 68]) {
+fn try_backs(
+    out: &mut Vec<u8>,
+    moved: [u8; 72],
+    new: [u8; 72],
+    old: [u8; 68],
+) -> Result<(), AllocError> {
     let mut whole = [FILL; 68];
-    try_back(b"back whole", &moved, &mut whole);
+    try_back(out, b"back whole", &moved, &mut whole)?;
     let mut short = [FILL; 67];
-    try_back(b"back short", &moved, &mut short);
+    try_back(out, b"back short", &moved, &mut short)?;
     let mut settings = [FILL; 68];
-    try_back(b"back settings", &new, &mut settings);
+    try_back(out, b"back settings", &new, &mut settings)?;
     let mut other = [FILL; 68];
-    try_back(b"back old", &old, &mut other);
+    try_back(out, b"back old", &old, &mut other)
 }
 
-pub fn try_all() {
-    try_saves();
+pub fn try_all(out: &mut Vec<u8>) -> Result<(), AllocError> {
+    try_saves(out)?;
     let image = image_of(3);
     let bytes = placed(image);
-    try_places(&bytes);
-    try_trailers(image);
-    try_bodies(image);
-    try_codes();
+    try_places(out, &bytes)?;
+    try_trailers(out, image)?;
+    try_bodies(out, image)?;
+    try_codes(out)?;
     let old = old_of(image);
-    let moved = try_forwards(old, image);
-    try_backs(moved, image, old);
+    let moved = try_forwards(out, old, image)?;
+    try_backs(out, moved, image, old)
 }

@@ -4,6 +4,7 @@ ghost use Rattle.std.specs.Prelude.{◌≡◌, ◌<◌, length};
 use crate::print::{put, put_byte};
 use crate::text::part;
 use controller::run::run_with_table;
+use std::alloc::AllocError;
 use translation::key_table::Table;
 
 // One event more than a list may have, and the space for its answers and more.
@@ -26,26 +27,19 @@ pub struct Case {
 }
 
 // Nine bytes to a line.
-fn put_answers(answers: &[u8]) {
-    let mut i = 0;
-    while i < answers.len() {
-        if i % 9 == 8 {
-            put_byte(answers[i], b'\n');
-        } else {
-            put_byte(answers[i], b' ');
-        }
-        i += 1;
+fn put_answers(out: &mut Vec<u8>, answers: &[u8]) -> Result<(), AllocError> {
+    for (i, answer) in answers.iter().enumerate() {
+        put_byte(out, *answer, if i % 9 == 8 { b'\n' } else { b' ' })?;
     }
+    Ok(())
 }
 
 // From this index on all is as before the run.
 fn untouched(answers: &[u8], from: usize) -> bool {
-    let mut i = from;
-    while i < answers.len() {
+    for i in from..answers.len() {
         if answers[i] != MARK {
             return false;
         }
-        i += 1;
     }
     true
 }
@@ -59,58 +53,58 @@ fn wide(byte: u8) -> u32
 // A sum over bytes that goes by their order.
 fn digest(bytes: &[u8]) -> u32 {
     let mut sum: u32 = 1;
-    let mut i = 0;
-    while i < bytes.len() {
-        sum = (sum * 31 + wide(bytes[i])) % 65521;
-        i += 1;
+    for byte in bytes {
+        sum = (sum * 31 + wide(*byte)) % 65521;
     }
     sum
 }
 
-fn put_rest(answers: &[u8], from: usize) {
+fn put_rest(out: &mut Vec<u8>, answers: &[u8], from: usize) -> Result<(), AllocError> {
     if untouched(answers, from) {
-        put(b" untouched");
+        put(out, b" untouched")
     } else {
-        put(b" touched");
+        put(out, b" touched")
     }
 }
 
 // A sum over the answers, and the last one.
-fn put_written(answers: &[u8]) {
+fn put_written(out: &mut Vec<u8>, answers: &[u8]) -> Result<(), AllocError> {
     let sum = digest(answers);
-    put(b", sum ");
-    put_byte((sum / 256 % 256) as u8, b' ');
-    put_byte((sum % 256) as u8, b',');
+    put(out, b", sum ")?;
+    put_byte(out, (sum / 256 % 256) as u8, b' ')?;
+    put_byte(out, (sum % 256) as u8, b',')?;
     let end = answers.len();
     if end < 9 {
-        put(b" none\n");
-        return;
+        return put(out, b" none\n");
     }
-    put(b" last ");
-    put_answers(part(answers, end - 9, end));
+    put(out, b" last ")?;
+    put_answers(out, part(answers, end - 9, end))
 }
 
-pub fn put_refusal(refusal: u8, end: u8) {
-    put(b": refusal ");
-    put_byte(refusal, end);
+pub fn put_refusal(out: &mut Vec<u8>, refusal: u8, end: u8) -> Result<(), AllocError> {
+    put(out, b": refusal ")?;
+    put_byte(out, refusal, end)
 }
 
 // What a call left: its refusal number, and the buffer, of which an accepted call has written so many bytes.
-fn put_outcome(refusal: u8, answers: &[u8], written: usize) {
-    put_refusal(refusal, b',');
+fn put_outcome(
+    out: &mut Vec<u8>,
+    refusal: u8,
+    answers: &[u8],
+    written: usize,
+) -> Result<(), AllocError> {
+    put_refusal(out, refusal, b',')?;
     if refusal != 0 {
-        put_rest(answers, 0);
-        put(b"\n");
-        return;
+        put_rest(out, answers, 0)?;
+        return put(out, b"\n");
     }
-    put_rest(answers, written);
-    put_written(part(answers, 0, written));
+    put_rest(out, answers, written)?;
+    put_written(out, part(answers, 0, written))
 }
 
 // A list run from a start: the number of the check that refuses the table or the list, 0 for none.
-fn run(case: Case, list: &[u8], answers: &mut [u8]) -> u8 {
-    let table = case.table;
-    run_with_table(case.options, case.version, &table, list, answers)
+fn run(case: &Case, list: &[u8], answers: &mut [u8]) -> u8 {
+    run_with_table(case.options, case.version, &case.table, list, answers)
 }
 
 // An answer buffer before a run.
@@ -129,21 +123,21 @@ fn answered(list: usize) -> usize {
 }
 
 // The case's own list, and each answer.
-pub fn run_whole(case: Case, list: &[u8]) -> Case {
+pub fn run_whole(out: &mut Vec<u8>, case: Case, list: &[u8]) -> Result<Case, AllocError> {
     let n = case.filled;
     let mut answers = marked();
-    let refusal = run(case, part(list, 0, n), &mut answers);
+    let refusal = run(&case, part(list, 0, n), &mut answers);
     if refusal != 0 {
-        put_refusal(refusal, b'\n');
-        return case;
+        put_refusal(out, refusal, b'\n')?;
+        return Ok(case);
     }
-    put(b"\n");
-    put_answers(part(&answers, 0, answered(n)));
-    case
+    put(out, b"\n")?;
+    put_answers(out, part(&answers, 0, answered(n)))?;
+    Ok(case)
 }
 
 // With that much of a buffer for the answers.
-fn run_part(case: Case, list: &[u8], answers: &mut [u8], space: usize) -> u8 {
+fn run_part(case: &Case, list: &[u8], answers: &mut [u8], space: usize) -> u8 {
     if answers.len() < space {
         return 0xFF;
     }
@@ -151,8 +145,13 @@ fn run_part(case: Case, list: &[u8], answers: &mut [u8], space: usize) -> u8 {
 }
 
 // With that much space for the answers: a sum of them, the last one, and whether the rest of the buffer was left alone.
-pub fn run_sized(case: Case, list: &[u8], space: usize) {
+pub fn run_sized(
+    out: &mut Vec<u8>,
+    case: &Case,
+    list: &[u8],
+    space: usize,
+) -> Result<(), AllocError> {
     let mut answers = marked();
     let refusal = run_part(case, list, &mut answers, space);
-    put_outcome(refusal, &answers, answered(list.len()));
+    put_outcome(out, refusal, &answers, answered(list.len()))
 }

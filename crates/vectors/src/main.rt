@@ -9,8 +9,13 @@ mod lists;
 mod print;
 mod text;
 
-fn main() {
-    frames::put_all();
-    cases::run_all();
-    images::try_all();
+use std::io;
+
+fn main(rt: HostRuntime) -> io::Result<()> {
+    let text = cases::read_all(rt.alloc(), rt.reader())?;
+    let mut out = Vec::new(rt.alloc());
+    frames::put_all(&mut out)?;
+    cases::run_all(&mut out, &text)?;
+    images::try_all(&mut out)?;
+    rt.write_all(&out)
 }

@@ -1,8 +1,8 @@
-// Writing to standard output.
-use libc::STDOUT_FILENO;
+// Writing to the text that the program prints. It grows in memory, so that only memory can fail here, and main writes it all at once.
+use std::alloc::AllocError;
 
-pub fn put(text: &[u8]) {
-    io::write_all(STDOUT_FILENO, text);
+pub fn put(out: &mut Vec<u8>, text: &[u8]) -> Result<(), AllocError> {
+    out.extend_from_slice(text)
 }
 
 // The hexadecimal digit of the low four bits.
@@ -16,12 +16,12 @@ pub fn digit(n: u8) -> u8 {
 }
 
 // A byte in two digits, and what ends it.
-pub fn put_byte(byte: u8, end: u8) {
-    put(&[digit(byte / 16), digit(byte), end]);
+pub fn put_byte(out: &mut Vec<u8>, byte: u8, end: u8) -> Result<(), AllocError> {
+    put(out, &[digit(byte / 16), digit(byte), end])
 }
 
 // A number in decimal behind a space.
-pub fn put_number(n: u64) {
-    put(b" ");
-    io::print_decimal(STDOUT_FILENO, n);
+pub fn put_number(out: &mut Vec<u8>, n: u64) -> Result<(), AllocError> {
+    let text = format!(in *out.allocator(); " {n}")?;
+    put(out, text.as_bytes())
 }

@@ -9,14 +9,12 @@ pub fn find(text: &[u8], from: usize, wanted: u8) -> usize
     requires { from ≤ length text.now }
     ensures { (from ≤ result) × (result ≤ length text.now) }
 {
-    let mut i = from;
-    while i < text.len() {
+    for i in from..text.len() {
         if text[i] == wanted {
             return i;
         }
-        i += 1;
     }
-    i
+    text.len()
 }
 
 // The bytes from one index up to another, none where there are no such bytes.
@@ -38,10 +36,8 @@ fn wide(byte: u8) -> u64
 // A word as a number: its bytes, the last one lowest, of which eight fit.
 pub fn key(word: &[u8]) -> u64 {
     let mut number: u64 = 0;
-    let mut i = 0;
-    while i < word.len() {
-        number = number % 0x100_0000_0000_0000 * 256 + wide(word[i]);
-        i += 1;
+    for byte in word {
+        number = number % 0x100_0000_0000_0000 * 256 + wide(*byte);
     }
     number
 }
@@ -75,10 +71,8 @@ pub fn decimal(text: &[u8]) -> usize {
         return NONE;
     }
     let mut n = 0;
-    let mut i = 0;
-    while i < text.len() {
-        n = longer(n, text[i]);
-        i += 1;
+    for digit in text {
+        n = longer(n, *digit);
     }
     n
 }
@@ -113,10 +107,8 @@ fn pairs(digits: usize) -> usize {
 // The bytes that pairs of digits stand for, with spaces between them or not, and their count. None where there is anything else, or no room.
 pub fn hexadecimal(text: &[u8], list: &mut [u8]) -> usize {
     let mut digits = 0;
-    let mut i = 0;
-    while i < text.len() {
-        digits = add_digit(list, digits, text[i]);
-        i += 1;
+    for digit in text {
+        digits = add_digit(list, digits, *digit);
     }
     pairs(digits)
 }
