@@ -1,7 +1,7 @@
 -- A command by the set of the start, and a command that was decoded: its three changes are the write's. Assumes nothing.
 use Prim.Native.Nat.{ℕ}
-use mathlib.Core.Path.{◌≡◌, refl, ap, subst, sym, ◌∙◌}
-use mathlib.Core.Bool.{Bool, true, false}
+use mathlib.Core.Path.{◌≡◌, ap, subst, sym, ◌∙◌}
+use mathlib.Core.Bool.{false}
 use mathlib.Core.List.{List}
 use Rattle.translation.proofs.Tests.{split}
 use Rattle.machine.specs.Settings.{Settings}

@@ -1,10 +1,10 @@
 -- What the controller's calls promise, over the machine that the state's bytes stand for. Each says: the machine's rule on any bytes;
 -- every byte of the state, where they are those of their machine; and that the body rules are kept.
-use Rattle.std.specs.Prelude.{◌≡◌, ℕ, ◌%◌, cond, List, [], ◌∷◌, eqb, length}
+use Rattle.std.specs.Prelude.{◌≡◌, ℕ, ◌%◌, cond, List, eqb, length}
 use Rattle.translation.specs.KeyTable.{table_refusal}
 use Rattle.machine.specs.Settings.{Settings, settings_of}
 use Rattle.machine.specs.State.{fresh}
-use Rattle.machine.specs.Events.{Event, step, answer, lines, refusal}
+use Rattle.machine.specs.Events.{Event, step, answer, refusal}
 use Rattle.machine.specs.Run.{events, after, filled, fitting, list_refusal}
 use Rattle.machine.specs.Kept.{Kept}
 use Rattle.state.specs.View.{view, public, state_of, IsState}

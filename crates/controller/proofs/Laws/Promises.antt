@@ -7,8 +7,8 @@ use lib.ListN.{length, length-take}
 use borrow.Author.Tests.{eq-eqb, ne_eqb}
 use Rattle.translation.specs.KeyTable.{built_in, table_refusal}
 use Rattle.translation.proofs.KeyTable.{built_in-passes}
-use Rattle.machine.specs.Settings.{Settings, settings_of}
-use Rattle.machine.specs.Run.{events, fitting, list_refusal}
+use Rattle.machine.specs.Settings.{settings_of}
+use Rattle.machine.specs.Run.{events, list_refusal}
 use Rattle.machine.proofs.Laws.Run.{length-events}
 use Rattle.state.specs.Started.{TableStarted}
 use Rattle.controller.specs.Promises.{FittingRun, ListRun, FreshRun, table_run_refusal, TableRun, remainder_refusal, CountedRun}

@@ -1,7 +1,7 @@
 -- From single events to the run of a list, and to the promises of the calls. Assumes nothing.
 use Prim.Native.Nat.{ℕ, ◌+◌, ◌*◌, ◌-◌, ◌≤◌, ◌<◌}
 use mathlib.Core.Path.{◌≡◌, refl, ap, ap₂, sym, subst, ◌∙◌}
-use mathlib.Core.List.{List, [], ◌∷◌, ◌++◌, append_assoc, append-nil}
+use mathlib.Core.List.{List, [], ◌++◌, append_assoc, append-nil}
 use mathlib.Core.Bool.{true, false, ◌&&◌, ◌||◌, true≢false}
 use native.Mathlib.Omega.{arith}
 use lib.Dec.{leb, ltb, eqb}
@@ -11,12 +11,11 @@ use lib.ListN.{length, set, take, drop, length-set, length-drop, length-append, 
 use lib.Seq.{take_at, drop_at, drop-drop, take-append-add}
 use Rattle.machine.specs.Settings.{Settings}
 use Rattle.machine.specs.State.{Machine, fresh}
-use Rattle.machine.specs.Events.{Event, event, refusal, step, answer, standing}
+use Rattle.machine.specs.Events.{Event, step, answer, standing}
 use Rattle.machine.specs.Run.{events, first, after, answers, filled, fitting, list_refusal}
 use Rattle.machine.specs.Kept.{Kept}
 use Rattle.state.specs.View.{view, public, state_of}
 use Rattle.state.specs.Changed.{Changed}
-use Rattle.machine.proofs.Laws.Kept.{keeps}
 use Rattle.state.proofs.Laws.Changed.{chain, by_rule, untouched}
 use Rattle.translation.proofs.Lists.{take_rest, handed, handed_back}
 use Rattle.machine.proofs.Laws.Run.{length-answer, length-answers, after_kept, after-append, filled_none, filled_more, filled-append}

@@ -1,7 +1,6 @@
 -- `body_rules::rules::none_zero` meets its contract. The loop's invariant: the bytes from i on pass the test exactly if all do; the measure is
 -- what is left of them.
 -- Assumes nothing.
-use Prim.Native.Nat.{◌-◌}
 use mathlib.Core.Path.{refl, sym, ap, ◌∙◌}
 use mathlib.Core.Bool.{not}
 use native.Mathlib.Omega.{arith}

@@ -1,7 +1,6 @@
 -- `command_port::commands::plain_command` meets its contract. Each arm is a case of the definition, which computes once the command is known.
 -- Assumes nothing.
 use mathlib.Core.Path.{refl, sym}
-use mathlib.Core.Logic.{⊎_elim}
 use native.Mathlib.Omega.{arith}
 use Rattle.machine.proofs.Laws.Commands.{command_A7, command_A8, command_A9, command_AA, command_AB, command_AD, command_AE}
 use Rattle.machine.proofs.Laws.Commands.{command_C0, command_C1, command_C2, command_D0, command_E0, command-cell, command-low, command-high}
@@ -56,11 +55,11 @@ pub returns-in_default : goal.returns-in_default
 returns-in_default c =
     let change = c.second_command.ensures.change in
     elim c.in_default.branch [
-      in_default-via-then-c-lt32 w ↦ record {
+      | in_default-via-then-c-lt32 w ↦ record {
         known = λ known. by_rule change (search (command-low, known));
         left = λ one _. by_rule change (sym (own_first _ _ refl one));
       }
-    | in_default-via-else-c-lt32+else-c-lt64 w ↦ record {
+      | in_default-via-else-c-lt32+else-c-lt64 w ↦ record {
         known = λ known. by_rule change (search (command-high, known));
         left = λ one _. by_rule change (sym (own_first _ _ refl one));
       }

@@ -20,8 +20,8 @@ returns c =
     let checked = c.pins_refusal-number.ensures (public s) in
     let told = c.quiet.ensures in
     elim c.if-number-eq0.branch [
-      then-number-eq0 w ↦ let byte = value-byte (public s) (event 8 a.low a.high) (sym checked ∙ w.if-number-eq0.true) refl in
-    met_accepted checked told w.if-number-eq0.true (refl, refl, refl)
-    (by_rule w.set_pins.ensures (ap (λ (v : ℕ). lift (pinned v) (view s)) (sym byte))) w.s-is
-    | else-number-eq0 w ↦ met_refused checked told w.if-number-eq0.false w.s-is
+      | then-number-eq0 w ↦ let byte = value-byte (public s) (event 8 a.low a.high) (sym checked ∙ w.if-number-eq0.true) refl in
+          met_accepted checked told w.if-number-eq0.true (refl, refl, refl)
+          (by_rule w.set_pins.ensures (ap (λ (v : ℕ). lift (pinned v) (view s)) (sym byte))) w.s-is
+      | else-number-eq0 w ↦ met_refused checked told w.if-number-eq0.false w.s-is
     ]

@@ -13,6 +13,6 @@ returns c =
     let checked = c.end_refusal-number.ensures.1 in
     let told = c.quiet.ensures in
     elim c.if-number-eq0.branch [
-      then-number-eq0 w ↦ met_accepted checked told w.if-number-eq0.true (refl, refl, refl) (by_rule w.timed_out.ensures refl) w.s-is
-    | else-number-eq0 w ↦ met_refused checked told w.if-number-eq0.false w.s-is
+      | then-number-eq0 w ↦ met_accepted checked told w.if-number-eq0.true (refl, refl, refl) (by_rule w.timed_out.ensures refl) w.s-is
+      | else-number-eq0 w ↦ met_refused checked told w.if-number-eq0.false w.s-is
     ]

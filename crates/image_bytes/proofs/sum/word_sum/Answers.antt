@@ -1,7 +1,7 @@
 -- `image_bytes::sum::word_sum` meets its contract. The loop's invariant: what has been added up and the words from byte i on come to the sum, modulo
 -- 65,536; the measure is what is left of the body.
 -- Assumes nothing.
-use Rattle.std.proofs.Common.{◌-◌, arith}
+use Rattle.std.proofs.Common.{arith}
 use Rattle.image_bytes.specs.Sum.{word_sum}
 use Rattle.image_bytes.proofs.Laws.Sum.{total_end, total-word}
 use Rattle.image_bytes.proofs.sum.word_sum.Goals as goal

@@ -1,6 +1,6 @@
 -- `keyboard::lock_code::fall_back` meets its contract. The loop's invariant: no beginning longer than n is one that the keys end with.
 -- Assumes nothing.
-use Prim.Native.Nat.{◌-◌, ◌≤◌}
+use Prim.Native.Nat.{◌≤◌}
 use mathlib.Core.Path.{◌≡◌}
 use mathlib.Core.List.{◌∷◌}
 use Rattle.machine.specs.Lock.{longest, begun}

@@ -1,6 +1,6 @@
 -- `keyboard::lock_code::repeats` meets its contract. The loop's invariant: what is left of both beginnings ends alike exactly if the whole did.
 -- Assumes nothing.
-use Prim.Native.Nat.{◌+◌, ◌-◌, ◌≤◌}
+use Prim.Native.Nat.{◌+◌, ◌≤◌}
 use mathlib.Core.Path.{◌≡◌}
 use lib.ListN.{take}
 use Rattle.machine.specs.Lock.{end_with, begun}
