@@ -1,11 +1,11 @@
 /* The 8042 keyboard controller model of the frost panel, for C and C++.
  *
  * Link crates/calugnid/out/libcalugnid.a, which `rt lib` in crates/calugnid
- * builds with the Rattle toolchain rattle-kit-13f. It is for x86-64 Linux, asks
- * a C library for memcpy and memset at most, and uses the vector registers that every
- * x86-64 processor has (xmm, SSE2): code that must leave these alone, as a
- * kernel's often must, cannot call it. The data sheet, docs/DATASHEET.md, has
- * every rule in tables.
+ * builds with the Rattle toolchain rattle-kit-13f. It is for x86-64 Linux,
+ * asks a C library for memcpy and memset at most, and uses the vector
+ * registers that every x86-64 processor has (xmm, SSE2): code that must leave
+ * these alone, as a kernel's often must, cannot call it. The data sheet,
+ * docs/DATASHEET.md, has every rule in tables.
  *
  * A controller is a state of CALUGNID_STATE_BYTES bytes that the caller keeps
  * and lends to each call. The library has no memory of its own, allocates
