@@ -4,9 +4,9 @@ ghost use Rattle.std.specs.Prelude.{◌≡◌, take, IfSome, IfOk};
 use crate::lists::{Case, LIST_SIZE, SPACE_SIZE, put_refusal, run_sized, run_whole};
 use crate::print::put;
 use crate::text::{decimal, find, hexadecimal, key, part};
-use std::alloc::{AllocError, Global};
+use std::alloc::Global;
 use std::io;
-use std::io::Read;
+use std::io::{Read, Write};
 use translation::key_table::{Table, built_in, table_refusal};
 
 // One byte more than all the cases may have, so that a longer input is noticed.
@@ -46,7 +46,7 @@ fn malformed(mut case: Case) -> Case {
     case
 }
 
-fn name(out: &mut Vec<u8>, text: &[u8]) -> Result<Case, AllocError> {
+fn name<W: Write>(out: &mut W, text: &[u8]) -> io::Result<Case> {
     put(out, text)?;
     Ok(ordinary())
 }
@@ -95,12 +95,12 @@ fn repeat(list: &mut [u8], n: usize) {
 }
 
 // The list over and over: that many bytes of it, with that much space for the answers.
-fn run_repeated(
-    out: &mut Vec<u8>,
+fn run_repeated<W: Write>(
+    out: &mut W,
     text: &[u8],
     case: Case,
     list: &mut [u8],
-) -> Result<Case, AllocError> {
+) -> io::Result<Case> {
     let at = find(text, 0, b' ');
     let bytes = decimal(part(text, 0, at));
     let space = decimal(part(text, at + 1, text.len()));
@@ -120,13 +120,13 @@ fn run_repeated(
 }
 
 // The check of as many bytes of a table and a zero behind it.
-fn put_check(out: &mut Vec<u8>, table: &Table, length: usize) -> Result<(), AllocError> {
+fn put_check<W: Write>(out: &mut W, table: &Table, length: usize) -> io::Result<()> {
     let mut bytes = [0u8; 257];
     byte_copy::copy(table, &mut bytes);
     put_refusal(out, table_refusal(part(&bytes, 0, length)), b'\n')
 }
 
-fn check(out: &mut Vec<u8>, text: &[u8], case: Case) -> Result<Case, AllocError> {
+fn check<W: Write>(out: &mut W, text: &[u8], case: Case) -> io::Result<Case> {
     let length = decimal(text);
     if 257 < length {
         return Ok(malformed(case));
@@ -136,13 +136,13 @@ fn check(out: &mut Vec<u8>, text: &[u8], case: Case) -> Result<Case, AllocError>
 }
 
 // A line by its first word and what stands behind it.
-fn obey(
-    out: &mut Vec<u8>,
+fn obey<W: Write>(
+    out: &mut W,
     word: u64,
     rest: &[u8],
     case: Case,
     list: &mut [u8; LIST_SIZE],
-) -> Result<Case, AllocError> {
+) -> io::Result<Case> {
     match word {
         NAME => name(out, rest),
         START => Ok(start(rest, case)),
@@ -156,7 +156,7 @@ fn obey(
 }
 
 // The comparison with what is expected fails at a line that could not be read.
-fn put_unsound(out: &mut Vec<u8>, line: &[u8], sound: bool) -> Result<(), AllocError> {
+fn put_unsound<W: Write>(out: &mut W, line: &[u8], sound: bool) -> io::Result<()> {
     if sound {
         return Ok(());
     }
@@ -166,12 +166,12 @@ fn put_unsound(out: &mut Vec<u8>, line: &[u8], sound: bool) -> Result<(), AllocE
 }
 
 // A line, and the case behind it. An empty one stands for nothing, as one that is there for the reader.
-fn run_line(
-    out: &mut Vec<u8>,
+fn run_line<W: Write>(
+    out: &mut W,
     line: &[u8],
     mut case: Case,
     list: &mut [u8; LIST_SIZE],
-) -> Result<Case, AllocError> {
+) -> io::Result<Case> {
     let at = find(line, 0, b' ');
     let word = key(part(line, 0, at));
     if word == 0 {
@@ -186,7 +186,7 @@ fn run_line(
     Ok(next)
 }
 
-fn run_lines(out: &mut Vec<u8>, text: &[u8]) -> Result<(), AllocError> {
+fn run_lines<W: Write>(out: &mut W, text: &[u8]) -> io::Result<()> {
     let mut list = [0u8; LIST_SIZE];
     let mut case = ordinary();
     let mut from = 0;
@@ -207,7 +207,7 @@ pub fn read_all<R: Read + Drop>(alloc: Global, input: R) -> io::Result<Vec<u8>>
     Ok(text)
 }
 
-pub fn run_all(out: &mut Vec<u8>, text: &[u8]) -> Result<(), AllocError> {
+pub fn run_all<W: Write>(out: &mut W, text: &[u8]) -> io::Result<()> {
     if text.len() == READ_MOST {
         put(out, b"more cases than fit\n")?;
     }

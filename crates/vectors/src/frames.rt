@@ -1,16 +1,17 @@
 // The verdict on each number of eleven bits, and the translation of each byte with the break flag clear and set.
 use crate::print::{digit, put, put_byte};
-use std::alloc::AllocError;
+use std::io;
+use std::io::Write;
 use translation::frames::Verdict;
 use translation::key_table::built_in_entry;
 use translation::scan_codes::Yield;
 use translation::{frames, scan_codes};
 
-fn put_flag(out: &mut Vec<u8>, flag: bool, end: u8) -> Result<(), AllocError> {
+fn put_flag<W: Write>(out: &mut W, flag: bool, end: u8) -> io::Result<()> {
     put(out, &[digit(flag as u8), end])
 }
 
-fn put_frame(out: &mut Vec<u8>, f: u16) -> Result<(), AllocError> {
+fn put_frame<W: Write>(out: &mut W, f: u16) -> io::Result<()> {
     put(out, &[digit((f / 256 % 16) as u8)])?;
     put_byte(out, (f % 256) as u8, b' ')?;
     match frames::judge(f) {
@@ -24,7 +25,7 @@ fn put_frame(out: &mut Vec<u8>, f: u16) -> Result<(), AllocError> {
     }
 }
 
-fn put_code(out: &mut Vec<u8>, byte: u8, breaks: bool) -> Result<(), AllocError> {
+fn put_code<W: Write>(out: &mut W, byte: u8, breaks: bool) -> io::Result<()> {
     put_byte(out, byte, b' ')?;
     put_flag(out, breaks, b' ')?;
     let after = scan_codes::translate(built_in_entry(byte), byte, breaks);
@@ -36,14 +37,14 @@ fn put_code(out: &mut Vec<u8>, byte: u8, breaks: bool) -> Result<(), AllocError>
     put_flag(out, after.breaks, b'\n')
 }
 
-fn put_codes(out: &mut Vec<u8>, breaks: bool) -> Result<(), AllocError> {
+fn put_codes<W: Write>(out: &mut W, breaks: bool) -> io::Result<()> {
     for byte in 0..=255 {
         put_code(out, byte, breaks)?;
     }
     Ok(())
 }
 
-pub fn put_all(out: &mut Vec<u8>) -> Result<(), AllocError> {
+pub fn put_all<W: Write>(out: &mut W) -> io::Result<()> {
     for f in 0..2048 {
         put_frame(out, f)?;
     }

@@ -12,7 +12,8 @@ use state::state::{
     CODE, FLAGS, HIGH_LATCHES, INPUT_LATCHES, LATCHES, LENGTH, OPTIONS, OUTPUT, PINS, RAM, State,
     TTIM, VERSION, start,
 };
-use std::alloc::AllocError;
+use std::io;
+use std::io::Write;
 
 // What a space holds before a save.
 const FILL: u8 = 0xEE;
@@ -140,17 +141,17 @@ fn added(bytes: &[u8]) -> u64 {
     total as u64
 }
 
-fn put_value(out: &mut Vec<u8>, x: u8) -> Result<(), AllocError> {
+fn put_value<W: Write>(out: &mut W, x: u8) -> io::Result<()> {
     put_number(out, x as u64)
 }
 
-fn put_line(out: &mut Vec<u8>, refusal: u8, bytes: &[u8]) -> Result<(), AllocError> {
+fn put_line<W: Write>(out: &mut W, refusal: u8, bytes: &[u8]) -> io::Result<()> {
     put_value(out, refusal)?;
     put_number(out, added(bytes))?;
     put(out, b"\n")
 }
 
-fn try_save(out: &mut Vec<u8>, space: &mut [u8]) -> Result<(), AllocError> {
+fn try_save<W: Write>(out: &mut W, space: &mut [u8]) -> io::Result<()> {
     put(out, b"save")?;
     put_number(out, space.len() as u64)?;
     let s = sample(3);
@@ -158,7 +159,7 @@ fn try_save(out: &mut Vec<u8>, space: &mut [u8]) -> Result<(), AllocError> {
     put_line(out, refusal, space)
 }
 
-fn try_load(out: &mut Vec<u8>, bytes: &[u8]) -> Result<(), AllocError> {
+fn try_load<W: Write>(out: &mut W, bytes: &[u8]) -> io::Result<()> {
     let mut s = start(0, 0);
     let refusal = load(&mut s, GIVEN, bytes);
     let mut image = [0u8; 72];
@@ -191,7 +192,7 @@ fn other(x: u8) -> u8 {
     x / 2 + 99
 }
 
-fn try_saves(out: &mut Vec<u8>) -> Result<(), AllocError> {
+fn try_saves<W: Write>(out: &mut W) -> io::Result<()> {
     let mut short = [FILL; 71];
     try_save(out, &mut short)?;
     let mut whole = [FILL; 72];
@@ -209,18 +210,18 @@ fn placed(image: [u8; 72]) -> [u8; 104] {
     bytes
 }
 
-fn try_place(
-    out: &mut Vec<u8>,
+fn try_place<W: Write>(
+    out: &mut W,
     name: &[u8],
     bytes: &[u8],
     from: usize,
     to: usize,
-) -> Result<(), AllocError> {
+) -> io::Result<()> {
     put(out, name)?;
     try_load(out, part(bytes, from, to))
 }
 
-fn try_find(out: &mut Vec<u8>, name: &[u8], bytes: &[u8]) -> Result<(), AllocError> {
+fn try_find<W: Write>(out: &mut W, name: &[u8], bytes: &[u8]) -> io::Result<()> {
     put(out, name)?;
     let body = find(bytes);
     put_number(out, body.len() as u64)?;
@@ -229,7 +230,7 @@ fn try_find(out: &mut Vec<u8>, name: &[u8], bytes: &[u8]) -> Result<(), AllocErr
 }
 
 // The image by itself, cut short, behind other bytes, and before one.
-fn try_places(out: &mut Vec<u8>, bytes: &[u8]) -> Result<(), AllocError> {
+fn try_places<W: Write>(out: &mut W, bytes: &[u8]) -> io::Result<()> {
     try_place(out, b"load whole", bytes, 31, 103)?;
     try_place(out, b"load short", bytes, 32, 103)?;
     try_place(out, b"load behind", bytes, 0, 103)?;
@@ -238,7 +239,7 @@ fn try_places(out: &mut Vec<u8>, bytes: &[u8]) -> Result<(), AllocError> {
 }
 
 // A byte of the trailer changed.
-fn try_trailer(out: &mut Vec<u8>, image: [u8; 72], k: u8) -> Result<(), AllocError> {
+fn try_trailer<W: Write>(out: &mut W, image: [u8; 72], k: u8) -> io::Result<()> {
     let at = k as usize;
     if at < 72 {
         let changed = with_byte(image, k, other(image[at]));
@@ -249,7 +250,7 @@ fn try_trailer(out: &mut Vec<u8>, image: [u8; 72], k: u8) -> Result<(), AllocErr
     Ok(())
 }
 
-fn try_trailers(out: &mut Vec<u8>, image: [u8; 72]) -> Result<(), AllocError> {
+fn try_trailers<W: Write>(out: &mut W, image: [u8; 72]) -> io::Result<()> {
     for k in 64..72 {
         try_trailer(out, image, k)?;
     }
@@ -265,7 +266,7 @@ fn tried(i: usize) -> u32 {
     if i < BODIES { TRIED[i] } else { 0 }
 }
 
-fn put_row(out: &mut Vec<u8>, row: u32) -> Result<(), AllocError> {
+fn put_row<W: Write>(out: &mut W, row: u32) -> io::Result<()> {
     put(out, b"body")?;
     put_value(out, low(row / 0x100_0000))?;
     put_value(out, low(row / 0x1_0000))?;
@@ -279,25 +280,25 @@ fn with_row(image: [u8; 72], row: u32) -> [u8; 72] {
     summed(with_byte(once, low(row / 0x100), low(row)))
 }
 
-fn try_body(out: &mut Vec<u8>, image: [u8; 72], row: u32) -> Result<(), AllocError> {
+fn try_body<W: Write>(out: &mut W, image: [u8; 72], row: u32) -> io::Result<()> {
     put_row(out, row)?;
     try_load(out, &with_row(image, row))
 }
 
-fn try_bodies(out: &mut Vec<u8>, image: [u8; 72]) -> Result<(), AllocError> {
+fn try_bodies<W: Write>(out: &mut W, image: [u8; 72]) -> io::Result<()> {
     for i in 0..BODIES {
         try_body(out, image, tried(i))?;
     }
     Ok(())
 }
 
-fn try_image(out: &mut Vec<u8>, name: &[u8], image: [u8; 72]) -> Result<(), AllocError> {
+fn try_image<W: Write>(out: &mut W, name: &[u8], image: [u8; 72]) -> io::Result<()> {
     put(out, name)?;
     try_load(out, &image)
 }
 
 // Lock codes of no byte and of sixteen: locked, and a length of seventeen.
-fn try_codes(out: &mut Vec<u8>) -> Result<(), AllocError> {
+fn try_codes<W: Write>(out: &mut W) -> io::Result<()> {
     let none = image_of(0);
     try_image(out, b"code none", none)?;
     try_image(out, b"code none locked", summed(with_byte(none, 1, 0x40)))?;
@@ -313,30 +314,25 @@ fn old_of(image: [u8; 72]) -> [u8; 68] {
     old
 }
 
-fn try_forward(
-    out: &mut Vec<u8>,
+fn try_forward<W: Write>(
+    out: &mut W,
     name: &[u8],
     bytes: &[u8],
     space: &mut [u8],
-) -> Result<(), AllocError> {
+) -> io::Result<()> {
     put(out, name)?;
     let refusal = to_second(bytes, space);
     put_line(out, refusal, space)
 }
 
-fn try_back(
-    out: &mut Vec<u8>,
-    name: &[u8],
-    bytes: &[u8],
-    space: &mut [u8],
-) -> Result<(), AllocError> {
+fn try_back<W: Write>(out: &mut W, name: &[u8], bytes: &[u8], space: &mut [u8]) -> io::Result<()> {
     put(out, name)?;
     let refusal = to_first(bytes, space);
     put_line(out, refusal, space)
 }
 
 // An image of edition 1 loaded, found and moved.
-fn try_forwards(out: &mut Vec<u8>, old: [u8; 68], new: [u8; 72]) -> Result<[u8; 72], AllocError> {
+fn try_forwards<W: Write>(out: &mut W, old: [u8; 68], new: [u8; 72]) -> io::Result<[u8; 72]> {
     put(out, b"old whole")?;
     try_load(out, &old)?;
     try_find(out, b"old find", &old)?;
@@ -350,12 +346,12 @@ fn try_forwards(out: &mut Vec<u8>, old: [u8; 68], new: [u8; 72]) -> Result<[u8; 
 }
 
 // What it moved to moved back, and images that have no way back.
-fn try_backs(
-    out: &mut Vec<u8>,
+fn try_backs<W: Write>(
+    out: &mut W,
     moved: [u8; 72],
     new: [u8; 72],
     old: [u8; 68],
-) -> Result<(), AllocError> {
+) -> io::Result<()> {
     let mut whole = [FILL; 68];
     try_back(out, b"back whole", &moved, &mut whole)?;
     let mut short = [FILL; 67];
@@ -366,7 +362,7 @@ fn try_backs(
     try_back(out, b"back old", &old, &mut other)
 }
 
-pub fn try_all(out: &mut Vec<u8>) -> Result<(), AllocError> {
+pub fn try_all<W: Write>(out: &mut W) -> io::Result<()> {
     try_saves(out)?;
     let image = image_of(3);
     let bytes = placed(image);

@@ -4,7 +4,8 @@ ghost use Rattle.std.specs.Prelude.{◌≡◌, ◌<◌, length};
 use crate::print::{put, put_byte};
 use crate::text::part;
 use controller::run::run_with_table;
-use std::alloc::AllocError;
+use std::io;
+use std::io::Write;
 use translation::key_table::Table;
 
 // One event more than a list may have, and the space for its answers and more.
@@ -27,7 +28,7 @@ pub struct Case {
 }
 
 // Nine bytes to a line.
-fn put_answers(out: &mut Vec<u8>, answers: &[u8]) -> Result<(), AllocError> {
+fn put_answers<W: Write>(out: &mut W, answers: &[u8]) -> io::Result<()> {
     for (i, answer) in answers.iter().enumerate() {
         put_byte(out, *answer, if i % 9 == 8 { b'\n' } else { b' ' })?;
     }
@@ -59,7 +60,7 @@ fn digest(bytes: &[u8]) -> u32 {
     sum
 }
 
-fn put_rest(out: &mut Vec<u8>, answers: &[u8], from: usize) -> Result<(), AllocError> {
+fn put_rest<W: Write>(out: &mut W, answers: &[u8], from: usize) -> io::Result<()> {
     if untouched(answers, from) {
         put(out, b" untouched")
     } else {
@@ -68,7 +69,7 @@ fn put_rest(out: &mut Vec<u8>, answers: &[u8], from: usize) -> Result<(), AllocE
 }
 
 // A sum over the answers, and the last one.
-fn put_written(out: &mut Vec<u8>, answers: &[u8]) -> Result<(), AllocError> {
+fn put_written<W: Write>(out: &mut W, answers: &[u8]) -> io::Result<()> {
     let sum = digest(answers);
     put(out, b", sum ")?;
     put_byte(out, (sum / 256 % 256) as u8, b' ')?;
@@ -81,18 +82,18 @@ fn put_written(out: &mut Vec<u8>, answers: &[u8]) -> Result<(), AllocError> {
     put_answers(out, part(answers, end - 9, end))
 }
 
-pub fn put_refusal(out: &mut Vec<u8>, refusal: u8, end: u8) -> Result<(), AllocError> {
+pub fn put_refusal<W: Write>(out: &mut W, refusal: u8, end: u8) -> io::Result<()> {
     put(out, b": refusal ")?;
     put_byte(out, refusal, end)
 }
 
 // What a call left: its refusal number, and the buffer, of which an accepted call has written so many bytes.
-fn put_outcome(
-    out: &mut Vec<u8>,
+fn put_outcome<W: Write>(
+    out: &mut W,
     refusal: u8,
     answers: &[u8],
     written: usize,
-) -> Result<(), AllocError> {
+) -> io::Result<()> {
     put_refusal(out, refusal, b',')?;
     if refusal != 0 {
         put_rest(out, answers, 0)?;
@@ -123,7 +124,7 @@ fn answered(list: usize) -> usize {
 }
 
 // The case's own list, and each answer.
-pub fn run_whole(out: &mut Vec<u8>, case: Case, list: &[u8]) -> Result<Case, AllocError> {
+pub fn run_whole<W: Write>(out: &mut W, case: Case, list: &[u8]) -> io::Result<Case> {
     let n = case.filled;
     let mut answers = marked();
     let refusal = run(&case, part(list, 0, n), &mut answers);
@@ -145,12 +146,7 @@ fn run_part(case: &Case, list: &[u8], answers: &mut [u8], space: usize) -> u8 {
 }
 
 // With that much space for the answers: a sum of them, the last one, and whether the rest of the buffer was left alone.
-pub fn run_sized(
-    out: &mut Vec<u8>,
-    case: &Case,
-    list: &[u8],
-    space: usize,
-) -> Result<(), AllocError> {
+pub fn run_sized<W: Write>(out: &mut W, case: &Case, list: &[u8], space: usize) -> io::Result<()> {
     let mut answers = marked();
     let refusal = run_part(case, list, &mut answers, space);
     put_outcome(out, refusal, &answers, answered(list.len()))

@@ -13,9 +13,8 @@ use std::io;
 
 fn main(rt: HostRuntime) -> io::Result<()> {
     let text = cases::read_all(rt.alloc(), rt.reader())?;
-    let mut out = Vec::new(rt.alloc());
+    let mut out = io::writer(&rt);
     frames::put_all(&mut out)?;
     cases::run_all(&mut out, &text)?;
-    images::try_all(&mut out)?;
-    rt.write_all(&out)
+    images::try_all(&mut out)
 }

@@ -1,8 +1,9 @@
-// Writing to the text that the program prints. It grows in memory, so that only memory can fail here, and main writes it all at once.
-use std::alloc::AllocError;
+// Writing what the program prints.
+use std::io;
+use std::io::Write;
 
-pub fn put(out: &mut Vec<u8>, text: &[u8]) -> Result<(), AllocError> {
-    out.extend_from_slice(text)
+pub fn put<W: Write>(out: &mut W, text: &[u8]) -> io::Result<()> {
+    out.write_all(text)
 }
 
 // The hexadecimal digit of the low four bits.
@@ -16,12 +17,11 @@ pub fn digit(n: u8) -> u8 {
 }
 
 // A byte in two digits, and what ends it.
-pub fn put_byte(out: &mut Vec<u8>, byte: u8, end: u8) -> Result<(), AllocError> {
+pub fn put_byte<W: Write>(out: &mut W, byte: u8, end: u8) -> io::Result<()> {
     put(out, &[digit(byte / 16), digit(byte), end])
 }
 
 // A number in decimal behind a space.
-pub fn put_number(out: &mut Vec<u8>, n: u64) -> Result<(), AllocError> {
-    let text = format!(in *out.allocator(); " {n}")?;
-    put(out, text.as_bytes())
+pub fn put_number<W: Write>(out: &mut W, n: u64) -> io::Result<()> {
+    write!(out, " {n}")
 }
