@@ -1,16 +1,13 @@
 // The cases of the lists, read from standard input. How they are written is said there.
-ghost use Rattle.std.specs.Prelude.{◌≡◌, take, IfSome, IfOk};
-
 use crate::lists::{Case, LIST_SIZE, SPACE_SIZE, put_refusal, run_sized, run_whole};
 use crate::print::put;
 use crate::text::{decimal, find, hexadecimal, key, part};
-use std::alloc::Global;
 use std::io;
-use std::io::{Read, Write};
+use std::io::Write;
 use translation::key_table::{Table, built_in, table_refusal};
 
 // One byte more than all the cases may have, so that a longer input is noticed.
-const READ_MOST: usize = 65536;
+pub const READ_MOST: usize = 65536;
 
 // The first words of lines, as numbers.
 const NAME: u64 = 0x6E61_6D65;
@@ -196,15 +193,6 @@ fn run_lines<W: Write>(out: &mut W, text: &[u8]) -> io::Result<()> {
         from = end + 1;
     }
     Ok(())
-}
-
-// The whole input, or as much of it as is looked at.
-pub fn read_all<R: Read + Drop>(alloc: Global, input: R) -> io::Result<Vec<u8>>
-    ensures { IfOk result (λ text. IfSome (R.remaining input) (λ bytes. text.items ≡ take READ_MOST bytes)) }
-{
-    let mut text = Vec::new(alloc);
-    input.take(READ_MOST as u64).read_to_end(&mut text)?;
-    Ok(text)
 }
 
 pub fn run_all<W: Write>(out: &mut W, text: &[u8]) -> io::Result<()> {

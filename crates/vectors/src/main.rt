@@ -9,12 +9,15 @@ mod lists;
 mod print;
 mod text;
 
+use cases::READ_MOST;
+use reading::read_full;
 use std::io;
 
 fn main(rt: HostRuntime) -> io::Result<()> {
-    let text = cases::read_all(rt.alloc(), rt.reader())?;
     let mut out = io::writer(&rt);
     frames::put_all(&mut out)?;
-    cases::run_all(&mut out, &text)?;
+    let mut text = [0u8; READ_MOST];
+    let got = read_full(&mut rt.reader(), &mut text)?;
+    cases::run_all(&mut out, &text[..got])?;
     images::try_all(&mut out)
 }
