@@ -133,7 +133,7 @@ fn pulse_of(s: &State, c: u8) -> u8
 
 // A command byte decoded under the settings of the start: the command as it acts, the pending code and the cell that it leaves, and the lines that it
 // pulses.
-#[derive(Drop)]
+#[derive(Clone, Copy)]
 pub struct Decoded {
     pub command: u8,
     pub pending: u8,

@@ -239,7 +239,7 @@ pub fn output_port(s: &State) -> u8
 }
 
 // Status and output port.
-#[derive(Drop)]
+#[derive(Clone, Copy)]
 pub struct Shown {
     pub status: u8,
     pub port: u8,

@@ -41,7 +41,7 @@ fn print_answers(count: usize, answers: &[u8], out: &mut [u8]) -> usize
 }
 
 // What printing came to: 0, or the check that refuses the list (7) or a buffer (8); and how many bytes of text were written.
-#[derive(Drop)]
+#[derive(Clone, Copy)]
 pub struct Printout {
     pub refusal: u8,
     pub written: usize,

@@ -6,7 +6,7 @@ use controller::run::{run_fitting, run_with_table};
 use state::state::start_with_table;
 
 // The refusal numbers of the two calls.
-#[derive(Drop)]
+#[derive(Clone, Copy)]
 pub struct Numbers {
     pub first: u8,
     pub second: u8,

@@ -2,7 +2,7 @@
 ghost use Rattle.std.specs.Prelude.{◌≡◌};
 
 // The number of the check that refuses the event (0 none), the byte read, 1 if that byte was old, and the mask of lines pulsed.
-#[derive(Drop)]
+#[derive(Clone, Copy)]
 pub struct Told {
     pub refusal: u8,
     pub read: u8,

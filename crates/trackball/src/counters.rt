@@ -11,7 +11,7 @@ pub struct Axis {
 }
 
 // Nine bits: a sign bit and a low byte.
-#[derive(Drop)]
+#[derive(Clone, Copy)]
 pub(crate) struct Nine {
     pub negative: bool,
     pub low: u8,

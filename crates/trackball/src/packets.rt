@@ -8,7 +8,7 @@ use crate::counters::split;
 use crate::trackball::{Trackball, without_movement};
 
 // The three bytes of a packet.
-#[derive(Drop)]
+#[derive(Clone, Copy)]
 pub(crate) struct Packet {
     pub head: u8,
     pub x: u8,
@@ -16,7 +16,7 @@ pub(crate) struct Packet {
 }
 
 // The bytes that a call hands out: four at most.
-#[derive(Drop)]
+#[derive(Clone, Copy)]
 pub enum Bytes {
     Nothing,
     One(u8),
@@ -26,7 +26,7 @@ pub enum Bytes {
 }
 
 // The trackball after a call, and the bytes that it hands out.
-#[derive(Drop)]
+#[derive(Clone, Copy)]
 pub struct Reply {
     pub trackball: Trackball,
     pub bytes: Bytes,

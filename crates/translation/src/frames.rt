@@ -4,7 +4,7 @@ ghost use Rattle.std.specs.Prelude.{◌≡◌, ◌*◌, ◌%◌, ◌<◌};
 ghost use Rattle.translation.specs.Frames.{check, frame, verdict, ones};
 
 // What the frame check finds: a sound frame with its byte, a wrong parity bit, a wrong stop bit, or a wrong start bit.
-#[derive(Drop)]
+#[derive(Clone, Copy)]
 pub enum Verdict {
     Sound(u8),
     Parity,

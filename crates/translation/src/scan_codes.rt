@@ -6,13 +6,13 @@ ghost use Rattle.translation.specs.ScanCodes.{translate, raw, translation};
 const BREAK: u8 = 0xF0;
 
 // What translation yields: nothing after the break prefix, else a byte.
-#[derive(Drop)]
+#[derive(Clone, Copy)]
 pub enum Yield {
     Nothing,
     Byte(u8),
 }
 
-#[derive(Drop)]
+#[derive(Clone, Copy)]
 pub struct Translated {
     pub yields: Yield,
     pub breaks: bool,
