@@ -1,6 +1,7 @@
 -- "Saved image", the body rules, over the bytes of a body, part by part: those of edition 1, which hold in each, and those of the bytes that edition 2
 -- adds.
-use Rattle.std.specs.Prelude.{ℕ, Bool, true, cond, not, ◌&&◌, List, [], ◌∷◌, take, drop, eqb, leb, ltb}
+use Rattle.std.specs.Prelude.{ℕ, Bool, true, cond, not, ◌&&◌, List, take, drop, eqb, leb, ltb}
+use Rattle.std.specs.List.{list_all}
 use Rattle.translation.specs.Bits.{has}
 use Rattle.body_rules.specs.Body.{flags_byte, latches_byte, pending_byte, cell_byte, overlay_byte, nibble_byte, sent_to_byte, sent_byte}
 use Rattle.body_rules.specs.Body.{length_byte, position_byte, code_bytes, mode_byte}
@@ -29,11 +30,6 @@ overlay_kept b =
 unfoldable pub sending_kept : List ℕ → Bool
 sending_kept b = leb (sent_to_byte b) 2 && cond (eqb (sent_to_byte b) 0) (eqb (sent_byte b) 0) true
 
--- a test that every byte passes
-unfoldable pub every : (ℕ → Bool) → List ℕ → Bool
-every test [] = true
-every test (x ∷ xs) = test x && every test xs
-
 abbrev pub is_zero : ℕ → Bool
 is_zero x = eqb x 0
 
@@ -44,7 +40,7 @@ nonzero x = not (eqb x 0)
 unfoldable pub code_kept : List ℕ → Bool
 code_kept b =
     leb (length_byte b) 16
-    && (every nonzero (take (length_byte b) (code_bytes b)) && every is_zero (drop (length_byte b) (code_bytes b)))
+    && (list_all nonzero (take (length_byte b) (code_bytes b)) && list_all is_zero (drop (length_byte b) (code_bytes b)))
 
 -- Locked needs a lock code, pending 0 and nobody, with the position below the code's length; not locked, the position is 0.
 unfoldable pub lock_kept : List ℕ → Bool

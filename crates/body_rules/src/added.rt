@@ -4,6 +4,7 @@ ghost use Rattle.body_rules.specs.Added as rules;
 
 use crate::body::{Body, HIGH_LATCHES, INPUT_LATCHES, NIBBLE, OPTIONS, TTIM};
 
+#[tactic(auto, unfolding(crate::specs::Added::unused_kept))]
 fn unused_kept(b: &Body) -> bool
     ensures { result ≡ rules.unused_kept b.now }
 {
@@ -14,6 +15,7 @@ fn unused_kept(b: &Body) -> bool
     (options < 0x10) & ((input < 0x40) & ((high < 0x10) & (!(high / 4 % 2 == 1) & (time_out < 2))))
 }
 
+#[tactic(auto, unfolding(crate::specs::Added::first_set_kept))]
 fn first_set_kept(b: &Body) -> bool
     ensures { result ≡ rules.first_set_kept b.now }
 {
@@ -25,6 +27,7 @@ fn first_set_kept(b: &Body) -> bool
     (input == 0x3F) & !(options / 8 % 2 == 1)
 }
 
+#[tactic(auto, unfolding(crate::specs::Added::ps2_kept))]
 fn ps2_kept(b: &Body) -> bool
     ensures { result ≡ rules.ps2_kept b.now }
 {
@@ -42,6 +45,7 @@ fn ps2_kept(b: &Body) -> bool
     }
 }
 
+#[tactic(auto, unfolding(crate::specs::Added::second_set_kept))]
 fn second_set_kept(b: &Body) -> bool
     ensures { result ≡ rules.second_set_kept b.now }
 {
@@ -54,6 +58,7 @@ fn second_set_kept(b: &Body) -> bool
     }
 }
 
+#[tactic(auto, unfolding(crate::specs::Added::added_kept))]
 pub(crate) fn added_kept(b: &Body) -> bool
     ensures { result ≡ rules.added_kept b.now }
 {

@@ -1,4 +1,6 @@
-// The bytes of a body by name: those that the body rules speak of.
+// The bytes of a body by name: those that the body rules speak of. This is the paper's layout of an image, and not the state's, though the bytes are
+// the same: that the two agree is proved (`Exact` in image/specs/Restored). A body may break every rule: so it is no struct, and each rule is a test
+// by its name, of bits by `/` and `%` as its definition has them.
 pub type Body = [u8; 64];
 
 // Seven flags, a bit each.

@@ -8,6 +8,7 @@ use crate::body::{
     SENT, SENT_TO,
 };
 
+#[tactic(auto, unfolding(crate::specs::Rules::flags_kept))]
 fn flags_kept(b: &Body) -> bool
     ensures { result ≡ rules.flags_kept b.now }
 {
@@ -28,6 +29,7 @@ fn latches_kept(b: &Body) -> bool
     b[LATCHES] < 4
 }
 
+#[tactic(auto, unfolding(crate::specs::Rules::pending_kept))]
 fn pending_kept(b: &Body) -> bool
     ensures { result ≡ rules.pending_kept b.now }
 {
@@ -37,12 +39,13 @@ fn pending_kept(b: &Body) -> bool
         return false;
     }
     if pending == 2 {
-        (1 <= cell) & (cell <= 31)
+        (1..=31).contains(&cell)
     } else {
         cell == 0
     }
 }
 
+#[tactic(auto, unfolding(crate::specs::Rules::overlay_kept))]
 fn overlay_kept(b: &Body) -> bool
     ensures { result ≡ rules.overlay_kept b.now }
 {
@@ -58,6 +61,7 @@ fn overlay_kept(b: &Body) -> bool
     }
 }
 
+#[tactic(auto, unfolding(crate::specs::Rules::sending_kept))]
 fn sending_kept(b: &Body) -> bool
     ensures { result ≡ rules.sending_kept b.now }
 {
@@ -69,32 +73,7 @@ fn sending_kept(b: &Body) -> bool
     if to == 0 { sent == 0 } else { true }
 }
 
-fn none_zero(bytes: &[u8]) -> bool
-    ensures { result ≡ rules.every rules.nonzero bytes.now }
-{
-    let mut i = 0;
-    while i < bytes.len() {
-        if bytes[i] == 0 {
-            return false;
-        }
-        i += 1;
-    }
-    true
-}
-
-fn all_zero(bytes: &[u8]) -> bool
-    ensures { result ≡ rules.every rules.is_zero bytes.now }
-{
-    let mut i = 0;
-    while i < bytes.len() {
-        if bytes[i] != 0 {
-            return false;
-        }
-        i += 1;
-    }
-    true
-}
-
+#[tactic(auto, unfolding(crate::specs::Rules::code_kept))]
 fn code_kept(b: &Body) -> bool
     ensures { result ≡ rules.code_kept b.now }
 {
@@ -102,13 +81,11 @@ fn code_kept(b: &Body) -> bool
     if 16 < count {
         return false;
     }
-    let n = count as usize;
-    // Of a slice of the whole the proofs learn the length, of an array behind a reference they do not.
-    let bytes = &b[..];
-    let code = &bytes[CODE..CODE_END];
-    none_zero(&code[..n]) & all_zero(&code[n..])
+    let (code, after) = b[CODE..CODE_END].split_at(count as usize);
+    code.iter().all(|x| *x != 0) & after.iter().all(|x| *x == 0)
 }
 
+#[tactic(auto, unfolding(crate::specs::Rules::lock_kept))]
 fn lock_kept(b: &Body) -> bool
     ensures { result ≡ rules.lock_kept b.now }
 {
@@ -130,6 +107,7 @@ fn mode_kept(b: &Body) -> bool
 }
 
 // The rules of edition 1, which hold in each.
+#[tactic(auto, unfolding(crate::specs::Rules::common_kept))]
 fn common_kept(b: &Body) -> bool
     ensures { result ≡ rules.common_kept b.now }
 {
@@ -141,6 +119,7 @@ fn common_kept(b: &Body) -> bool
 }
 
 // Whether a body keeps all the rules.
+#[tactic(auto, unfolding(crate::specs::Rules::body_kept))]
 pub fn body_kept(b: &Body) -> bool
     ensures { result ≡ rules.body_kept b.now }
 {

@@ -6,7 +6,8 @@ ghost use Rattle.state.specs.View.{options_of, public, state_length};
 ghost use Rattle.calugnid.specs.Values.{event_of, library_version};
 
 use controller::asked::{locked, options, status, version};
-use controller::events::refusal;
+use controller::events::check_event;
+use state::event::Value;
 use state::state::State;
 
 // The status, which a host reads at port 64h.
@@ -22,7 +23,7 @@ pub extern "C" fn calugnid_status(state: &State) -> u8
 pub extern "C" fn calugnid_ready(state: &State, kind: u8) -> bool
     ensures { (value : ℕ) → value ≤ events.limit kind → result ≡ eqb (events.refusal (public state.now) (event_of kind value)) 0 }
 {
-    refusal(state, kind, 0, 0) == 0
+    check_event(state, kind, Value::from(0)).is_ok()
 }
 
 // Whether the controller is locked.

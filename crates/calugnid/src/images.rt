@@ -12,6 +12,7 @@ use image::find::body_start;
 use image::load::{load, load_with_table};
 use image::run::{run_image, run_image_with_table};
 use image::save::save;
+use refusals::refusal::number_of;
 use state::state::State;
 
 // The state saved, but for its version byte and its key table: 0, or 9 with nothing written.
@@ -19,7 +20,7 @@ use state::state::State;
 pub extern "C" fn calugnid_save(state: &State, saved: &mut [u8]) -> u8
     ensures { Saved state.now saved.old result saved.new }
 {
-    save(state, saved)
+    number_of(save(state, saved))
 }
 
 // The state of the image at the end of the bytes, with this version byte and the built-in key table: 0, or 10 or 11 with the state as it was.
@@ -27,7 +28,7 @@ pub extern "C" fn calugnid_save(state: &State, saved: &mut [u8]) -> u8
 pub extern "C" fn calugnid_load(state: &mut State, version: u8, image: &[u8]) -> u8
     ensures { Loaded version built_in state.old image.now result state.new }
 {
-    load(state, version, image)
+    number_of(load(state, version, image))
 }
 
 // The same with a key table of the caller's: 0, or 10, 11, 13, 14 or 15 with the state as it was.
@@ -40,7 +41,7 @@ pub extern "C" fn calugnid_load_with_table(
 ) -> u8
     ensures { Loaded version table.now state.old image.now result state.new }
 {
-    load_with_table(state, version, table, image)
+    number_of(load_with_table(state, version, table, image))
 }
 
 // An image loaded, a list run and the state saved again. Every check comes before the first byte is written.
@@ -54,7 +55,7 @@ pub extern "C" fn calugnid_run_image(
 ) -> u8
     ensures { ImageRun version built_in image.now list.now answers.old saved.old result answers.new saved.new }
 {
-    run_image(version, image, list, answers, saved)
+    number_of(run_image(version, image, list, answers, saved))
 }
 
 // The same with a key table of the caller's.
@@ -69,7 +70,7 @@ pub extern "C" fn calugnid_run_image_with_table(
 ) -> u8
     ensures { ImageRun version table.now image.now list.now answers.old saved.old result answers.new saved.new }
 {
-    run_image_with_table(version, table, image, list, answers, saved)
+    number_of(run_image_with_table(version, table, image, list, answers, saved))
 }
 
 // An image of edition 1 as one of edition 2: 0, or 10, 11 or 9 with nothing written.
@@ -77,7 +78,7 @@ pub extern "C" fn calugnid_run_image_with_table(
 pub extern "C" fn calugnid_move_to_edition_2(image: &[u8], moved: &mut [u8]) -> u8
     ensures { let l = image.now in Moved (moves.forward l) (moves.forward_refusal l moved.old) moved.old result moved.new }
 {
-    to_second(image, moved)
+    number_of(to_second(image, moved))
 }
 
 // An image of edition 2 as one of edition 1: 0, or 10, 11, 16 or 9 with nothing written.
@@ -85,7 +86,7 @@ pub extern "C" fn calugnid_move_to_edition_2(image: &[u8], moved: &mut [u8]) -> 
 pub extern "C" fn calugnid_move_to_edition_1(image: &[u8], moved: &mut [u8]) -> u8
     ensures { let l = image.now in Moved (moves.back l) (moves.back_refusal l moved.old) moved.old result moved.new }
 {
-    to_first(image, moved)
+    number_of(to_first(image, moved))
 }
 
 // Where the body of the image at the end of the bytes starts, or their length where there is none.

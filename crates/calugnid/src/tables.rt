@@ -5,15 +5,16 @@ ghost use Rattle.state.specs.Started.{TableStarted};
 ghost use Rattle.controller.specs.Promises.{TableRun};
 
 use controller::run::run_with_table;
-use state::state::{State, start_with_table};
-use translation::key_table::table_refusal;
+use refusals::refusal::number_of;
+use state::state::{Setup, State, start_with_table};
+use translation::key_table::check_table;
 
 // The number of the check that would refuse a table, 0 for none.
 #[unsafe(no_mangle)]
 pub extern "C" fn calugnid_table_refusal(table: &[u8]) -> u8
     ensures { result ≡ table_refusal table.now }
 {
-    table_refusal(table)
+    number_of(check_table(table))
 }
 
 // A controller after power-on with this table: 0, or the number that refuses the table with the state as it was.
@@ -26,7 +27,7 @@ pub extern "C" fn calugnid_start_with_table(
 ) -> u8
     ensures { TableStarted options version table.now state.old result state.new }
 {
-    start_with_table(state, options, version, table)
+    number_of(start_with_table(state, Setup { options, version }, table))
 }
 
 // A list run by a controller that is started with this table: 0, or the number that refuses the table or the list.
@@ -40,5 +41,6 @@ pub extern "C" fn calugnid_run_with_table(
 ) -> u8
     ensures { TableRun options version table.now list.now answers.old answers.new result }
 {
-    run_with_table(options, version, table, list, answers)
+    let setup = Setup { options, version };
+    number_of(run_with_table(setup, table, list, answers))
 }

@@ -7,13 +7,13 @@ ghost use Rattle.calugnid.specs.Numbers.{check_number, yield_number, flag_number
 
 use translation::frames::{Verdict, frame_of, judge};
 use translation::key_table::built_in_entry;
-use translation::scan_codes::{Yield, translate};
+use translation::scan_codes::translate;
 
 fn number_of(v: Verdict) -> u16
     ensures { result ≡ check_number (verdict v) }
 {
     match v {
-        Verdict::Sound(byte) => byte as u16,
+        Verdict::Sound(byte) => byte.into(),
         Verdict::Parity => 256,
         Verdict::Broken => 257,
         Verdict::Noise => 258,
@@ -36,12 +36,12 @@ pub extern "C" fn calugnid_frame(byte: u8) -> u16
     frame_of(byte)
 }
 
-fn yielded(y: Yield) -> u16
+fn yielded(y: Option<u8>) -> u16
     ensures { (result ≡ yield_number (codes.yielded y)) × (result < 512) }
 {
     match y {
-        Yield::Nothing => 0,
-        Yield::Byte(byte) => 256 + (byte as u16),
+        None => 0,
+        Some(byte) => 256 + u16::from(byte),
     }
 }
 
@@ -57,6 +57,5 @@ pub extern "C" fn calugnid_translate(byte: u8, breaks: bool) -> u16
     ensures { result ≡ translation_number (codes.translate built_in byte breaks) }
 {
     let t = translate(built_in_entry(byte), byte, breaks);
-    let yields = t.yields;
-    yielded(yields) + flag(t.breaks)
+    yielded(t.yields) + flag(t.breaks)
 }

@@ -1,60 +1,62 @@
-// The checks that refuse what a device or the wire brings, by their numbers; 0 is none.
+// The checks of what a device or the wire brings.
 ghost use Rattle.std.specs.Prelude.{◌≡◌, cond, ◌||◌, ltb};
+ghost use Rattle.refusals.specs.Numbers.{outcome};
 ghost use Rattle.machine.specs.State.{Public};
 ghost use Rattle.machine.specs.Lines.{input_full};
 ghost use Rattle.translation.specs.Bits.{word};
 ghost use Rattle.machine.specs.Events.{event, refusal};
 ghost use Rattle.state.specs.View.{public};
 
+use crate::value::fits;
 use lines::lines::{at_mode, input_full, keyboard_off, mouse_off, output_full};
+use refusals::refusal::Refusal;
+use state::event::Value;
 use state::state::State;
-use translation::bits::word;
 
+// Two devices send frames, and differ in two answers of the state, which are lent: a device as a parameter would be asked for both.
 // A frame: the mode has no such device; or the device is off, the output buffer is full, or a byte is being sent.
-fn frame_refusal(s: &State, absent: bool, off: bool, low: u8, high: u8) -> u8
-    ensures { let p = public s.now in result ≡ cond (ltb 2047 (word low high)) 2 (cond absent 12 (cond (off || (p.output.full || input_full p)) 5 0)) }
+fn check_frame(s: &State, absent: bool, off: bool, value: Value) -> Result<(), Refusal>
+    ensures { let p = public s.now in outcome result ≡ cond (ltb 2047 (word value.low value.high)) 2 (cond absent 12 (cond (off || (p.output.full || input_full p)) 5 0)) }
 {
-    if 2047 < word(low, high) {
-        2
-    } else if absent {
-        12
+    fits(value, 2047)?;
+    if absent {
+        Err(Refusal::NoMouse)
     } else if off | (output_full(s) | input_full(s)) {
-        5
+        Err(Refusal::CannotReceive)
     } else {
-        0
+        Ok(())
     }
 }
 
 // Kind 4.
-pub fn keyboard_refusal(s: &State, low: u8, high: u8) -> u8
-    ensures { result ≡ refusal (public s.now) (event 4 low high) }
+pub fn check_keyboard(s: &State, value: Value) -> Result<(), Refusal>
+    ensures { outcome result ≡ refusal (public s.now) (event 4 value.low value.high) }
 {
-    frame_refusal(s, false, keyboard_off(s), low, high)
+    check_frame(s, false, keyboard_off(s), value)
 }
 
 // Kind 5.
-pub fn mouse_refusal(s: &State, low: u8, high: u8) -> u8
-    ensures { result ≡ refusal (public s.now) (event 5 low high) }
+pub fn check_mouse(s: &State, value: Value) -> Result<(), Refusal>
+    ensures { outcome result ≡ refusal (public s.now) (event 5 value.low value.high) }
 {
-    frame_refusal(s, at_mode(s), mouse_off(s), low, high)
+    check_frame(s, at_mode(s), mouse_off(s), value)
 }
 
 // Kinds 6 and 7, the end of a byte being sent.
-pub fn end_refusal(s: &State, low: u8, high: u8) -> u8
-    ensures { let p = public s.now in (result ≡ refusal p (event 6 low high)) × (result ≡ refusal p (event 7 low high)) }
+pub fn check_end(s: &State, value: Value) -> Result<(), Refusal>
+    ensures { let p = public s.now in (outcome result ≡ refusal p (event 6 value.low value.high)) × (outcome result ≡ refusal p (event 7 value.low value.high)) }
 {
-    if 0 < word(low, high) {
-        2
-    } else if input_full(s) {
-        0
+    fits(value, 0)?;
+    if input_full(s) {
+        Ok(())
     } else {
-        6
+        Err(Refusal::NothingSent)
     }
 }
 
 // Kind 8.
-pub fn pins_refusal(low: u8, high: u8) -> u8
-    ensures { (p : Public) → result ≡ refusal p (event 8 low high) }
+pub fn check_pins(value: Value) -> Result<(), Refusal>
+    ensures { (p : Public) → outcome result ≡ refusal p (event 8 value.low value.high) }
 {
-    if 255 < word(low, high) { 2 } else { 0 }
+    fits(value, 255)
 }

@@ -1,32 +1,33 @@
-// The checks that refuse a read or a write, by their numbers; 0 is none.
+// The checks of a read or a write.
 ghost use Rattle.std.specs.Prelude.{◌≡◌};
+ghost use Rattle.refusals.specs.Numbers.{outcome};
 ghost use Rattle.machine.specs.State.{Public};
-ghost use Rattle.machine.specs.Events as events;
-ghost use Rattle.machine.specs.Events.{event};
+ghost use Rattle.machine.specs.Events.{event, refusal};
 ghost use Rattle.state.specs.View.{public};
 
+use crate::value::fits;
 use lines::lines::{input_full, locked};
+use refusals::refusal::Refusal;
+use state::event::Value;
 use state::state::State;
-use translation::bits::word;
 
 // Kinds 0 and 2.
-pub fn read_refusal(low: u8, high: u8) -> u8
-    ensures { (p : Public) → (result ≡ events.refusal p (event 0 low high)) × (result ≡ events.refusal p (event 2 low high)) }
+pub fn check_read(value: Value) -> Result<(), Refusal>
+    ensures { (p : Public) → (outcome result ≡ refusal p (event 0 value.low value.high)) × (outcome result ≡ refusal p (event 2 value.low value.high)) }
 {
-    if 0 < word(low, high) { 2 } else { 0 }
+    fits(value, 0)
 }
 
 // Kinds 1 and 3.
-pub fn write_refusal(s: &State, low: u8, high: u8) -> u8
-    ensures { (result ≡ events.refusal (public s.now) (event 1 low high)) × (result ≡ events.refusal (public s.now) (event 3 low high)) }
+pub fn check_write(s: &State, value: Value) -> Result<(), Refusal>
+    ensures { let p = public s.now in (outcome result ≡ refusal p (event 1 value.low value.high)) × (outcome result ≡ refusal p (event 3 value.low value.high)) }
 {
-    if 255 < word(low, high) {
-        2
-    } else if input_full(s) {
-        3
+    fits(value, 255)?;
+    if input_full(s) {
+        Err(Refusal::StillSending)
     } else if locked(s) {
-        4
+        Err(Refusal::Locked)
     } else {
-        0
+        Ok(())
     }
 }

@@ -4,3 +4,4 @@
 pub mod devices;
 pub mod events;
 pub mod host;
+mod value;

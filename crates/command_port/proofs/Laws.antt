@@ -14,8 +14,9 @@ use Rattle.machine.proofs.Laws.Cond.{not_both}
 use Rattle.machine.proofs.Laws.Commands.{write_command-known, load_cut-settings, acts-none}
 use Rattle.state.specs.View.{public, view}
 use Rattle.state.specs.Changed.{Changed}
-use Rattle.state.specs.Told.{EventTold}
+use Rattle.std.specs.Prelude.{Ok}
 use Rattle.state.specs.declared.told.Told.{Told}
+use Rattle.state.specs.Told.{own, EventTold}
 use Rattle.state.proofs.Laws.Changed.{by_three}
 use Rattle.state.proofs.Laws.Told.{told_command}
 use Rattle.decoding.specs.Promises.{CommandDecoded, heard}
@@ -40,15 +41,13 @@ module _ {s t u : List ℕ} {c : ℕ} {d : Decoded}
   settings_now : (public u).settings ≡ (public s).settings
   settings_now = ap (λ (m : Machine). m.plain.settings) written.machine ∙ ap (λ (m : Machine). m.plain.settings) cut.machine ∙ load_cut-settings (view s)
 
-  pub command_done : {v : List ℕ} {n high : ℕ} {told : Told} → n ≡ refusal (public s) (event 3 c high) → n ≡ 0 →
-      (told.refusal ≡ 0) × (told.read ≡ 0) × (told.old ≡ 0) × (told.pulse ≡ d.pulse) →
-      ChangedBySet d.command (acts d.command) u v →
-      EventTold s (event 3 c high) v told
-  command_done {v} same none (is_number, is_read, is_old, is_pulse) acted =
+  pub command_done : {v : List ℕ} {high : ℕ} (t : Told) → (t.read ≡ 0) × (t.old ≡ false) × (t.pulse ≡ d.pulse) →
+      0 ≡ refusal (public s) (event 3 c high) → ChangedBySet d.command (acts d.command) u v → EventTold s (event 3 c high) v (own (Ok t))
+  command_done {v} t (read, old, pulsed) checked acted =
       let x = (public s).settings in
       let heard' = from_start.command in
       let set-now : second_set (public u) ≡ x.second_set = ap (λ (y : Settings). y.second_set) settings_now in
-      told_command same none (is_number, is_read, is_old, is_pulse ∙ from_start.pulse)
+      told_command t checked (read, old, pulsed ∙ from_start.pulse)
       (split (second_only d.command)
       (λ only.
       split x.second_set

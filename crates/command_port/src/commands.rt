@@ -1,32 +1,36 @@
-// Kind 3, a command byte written to port 64h.
+// Kind 3, a command byte written to port 64h. It is data of the wire, and its pending code the number that the state and an image hold: so both are
+// matched as they are. The lock is set here and opened in `keyboard`: one public function for both could lock without a code, which a body rule
+// forbids.
 ghost use Rattle.std.specs.Prelude.{◌≡◌, ◌%◌};
 ghost use Rattle.machine.specs.State.{with_host, after_command, lift};
 ghost use Rattle.machine.specs.Commands as command;
 ghost use Rattle.machine.specs.Events.{event};
 ghost use Rattle.state.specs.View.{public, view};
 ghost use Rattle.state.specs.Changed.{Changed};
-ghost use Rattle.state.specs.Told.{EventTold};
+ghost use Rattle.state.specs.Told.{EventTold, own};
 ghost use Rattle.command_port.specs.Promises.{ChangedBySet};
 
-use checks::host::write_refusal;
+use checks::host::check_write;
 use decoding::commands::decode;
+use lines::device::Device;
 use lines::lines::{
     at_mode, cell, input_port, keyboard_off, mode, mouse_off, output_port, put, put_cell,
     second_set,
 };
-use lines::mode::{disable_keyboard, disable_mouse, enable_keyboard, enable_mouse, set_mode};
-use state::bits::nibble;
+use lines::mode::{disable, enable, set_mode};
+use refusals::refusal::Refusal;
 use state::code::drop_code;
+use state::event::Value;
 use state::flags::{with_command, with_locked};
-use state::state::{CELL, FLAGS, LENGTH, NIBBLE, OVERLAY, PENDING, POSITION, State, sized};
-use state::told::{Told, quiet};
+use state::state::{CELL, FLAGS, LENGTH, NIBBLE, OVERLAY, PENDING, POSITION, State};
+use state::told::Told;
+use translation::bits::nibble;
 use vt82c42::second_set::second_command;
 
 // The command flag is set, the overlay ends, and the pending code and its cell are the command's own.
 fn command_written(s: &mut State, pending: u8, cell: u8)
     ensures { Changed (lift (λ p. with_host p (after_command pending cell))) s.old s.new }
 {
-    sized(*s);
     let flags = s[FLAGS];
     s[FLAGS] = with_command(flags, true);
     s[PENDING] = pending;
@@ -48,7 +52,6 @@ fn cut_load(s: &mut State)
 fn overlay(s: &mut State, n: u8)
     ensures { Changed (lift (command.overlaid n)) s.old s.new }
 {
-    sized(*s);
     s[OVERLAY] = 1;
     s[NIBBLE] = n;
 }
@@ -57,10 +60,10 @@ fn overlay(s: &mut State, n: u8)
 fn self_test(s: &mut State)
     ensures { Changed (lift command.self_tested) s.old s.new }
 {
+    enable(s, Device::Keyboard);
+    enable(s, Device::Mouse);
     let n = mode(s);
-    let on = n - n / 16 % 2 * 16;
-    let both = on - on / 32 % 2 * 32;
-    set_mode(s, both - both / 4 % 2 * 4 + 4);
+    set_mode(s, n - n / 4 % 2 * 4 + 4);
     put(s, 0x55);
 }
 
@@ -75,6 +78,7 @@ fn test_inputs(s: &State) -> u8
     }
 }
 
+// The commands that put a byte of the controller's: each is one of document 01's table, with a rule of its own.
 fn put_test_inputs(s: &mut State)
     ensures { Changed (lift command.test_inputs_put) s.old s.new }
 {
@@ -96,7 +100,6 @@ fn put_named_cell(s: &mut State, c: u8)
     put(s, byte);
 }
 
-// The input port put, or half of it shown over the status.
 fn put_input_port(s: &mut State)
     ensures { Changed (lift command.input_port_put) s.old s.new }
 {
@@ -111,19 +114,11 @@ fn polled(s: &State, n: u8) -> u8
     if second_set(s) { n - n % 2 } else { n }
 }
 
-fn show_low_lines(s: &mut State)
-    ensures { Changed (lift command.low_lines_shown) s.old s.new }
+// That nibble over the status.
+fn show_lines(s: &mut State, n: u8)
+    ensures { Changed (lift (λ p. command.overlaid (command.polled n p) p)) s.old s.new }
 {
-    let port = input_port(s);
-    let shown = polled(s, port % 16);
-    overlay(s, shown);
-}
-
-fn show_high_lines(s: &mut State)
-    ensures { Changed (lift command.high_lines_shown) s.old s.new }
-{
-    let port = input_port(s);
-    let shown = polled(s, port / 16);
+    let shown = polled(s, n);
     overlay(s, shown);
 }
 
@@ -133,16 +128,21 @@ fn plain_command(s: &mut State, c: u8)
 {
     match c {
         0x20..=0x3F => put_named_cell(s, c),
-        0xA7 => disable_mouse(s),
-        0xA8 => enable_mouse(s),
-        0xA9 => put(s, 0),
+        0xA7 => disable(s, Device::Mouse),
+        0xA8 => enable(s, Device::Mouse),
+        0xA9 | 0xAB => put(s, 0),
         0xAA => self_test(s),
-        0xAB => put(s, 0),
-        0xAD => disable_keyboard(s),
-        0xAE => enable_keyboard(s),
+        0xAD => disable(s, Device::Keyboard),
+        0xAE => enable(s, Device::Keyboard),
         0xC0 => put_input_port(s),
-        0xC1 => show_low_lines(s),
-        0xC2 => show_high_lines(s),
+        0xC1 => {
+            let port = input_port(s);
+            show_lines(s, port % 16);
+        }
+        0xC2 => {
+            let port = input_port(s);
+            show_lines(s, port / 16);
+        }
         0xD0 => put_output_port(s),
         0xE0 => put_test_inputs(s),
         _ => second_command(s, c),
@@ -153,7 +153,6 @@ fn plain_command(s: &mut State, c: u8)
 fn has_code(s: &State) -> bool
     ensures { result ≡ command.has_code (view s.now) }
 {
-    sized(*s);
     s[LENGTH] != 0
 }
 
@@ -172,7 +171,6 @@ fn ask_code(s: &mut State)
 fn set_lock(s: &mut State)
     ensures { Changed command.lock_set s.old s.new }
 {
-    sized(*s);
     let flags = s[FLAGS];
     s[FLAGS] = with_locked(flags, true);
     s[POSITION] = 0;
@@ -200,21 +198,16 @@ fn act(s: &mut State, c: u8)
     }
 }
 
-pub fn command_event(s: &mut State, low: u8, high: u8) -> Told
-    ensures { EventTold s.old (event 3 low high) s.new result }
+pub fn command_event(s: &mut State, value: Value) -> Result<Told, Refusal>
+    ensures { EventTold s.old (event 3 value.low value.high) s.new (own result) }
 {
-    let number = write_refusal(s, low, high);
-    if number != 0 {
-        return quiet(number);
-    }
+    check_write(s, value)?;
     cut_load(s);
-    let decoded = decode(s, low);
+    let decoded = decode(s, value.low);
     command_written(s, decoded.pending, decoded.cell);
     act(s, decoded.command);
-    Told {
-        refusal: 0,
-        read: 0,
-        old: 0,
+    Ok(Told {
         pulse: decoded.pulse,
-    }
+        ..Told::default()
+    })
 }

@@ -1,6 +1,7 @@
 -- What the controller's calls promise, over the machine that the state's bytes stand for. Each says: the machine's rule on any bytes;
 -- every byte of the state, where they are those of their machine; and that the body rules are kept.
-use Rattle.std.specs.Prelude.{◌≡◌, ℕ, ◌%◌, cond, List, eqb, length}
+use Rattle.std.specs.Prelude.{◌≡◌, ℕ, ◌%◌, cond, List, eqb, length, Result, Ok, Err}
+use Rattle.refusals.specs.declared.refusal.Refusal.{Refusal}
 use Rattle.translation.specs.KeyTable.{table_refusal}
 use Rattle.machine.specs.Settings.{Settings, settings_of}
 use Rattle.machine.specs.State.{fresh}
@@ -60,3 +61,8 @@ pub record CountedRun (s list space : List ℕ) (count number : ℕ) (s' space' 
   pub run : remainder_refusal list ≡ 0 → FittingRun s list space s' space'
   pub counted : remainder_refusal list ≡ 0 → count' ≡ length (fitting list space)
   pub kept : Kept (view s) → Kept (view s')
+
+-- The number of events that a run answers, in place of the one that stood there.
+abbrev pub counted : ℕ → Result ℕ Refusal → ℕ
+counted count (Ok n) = n
+counted count (Err _) = count

@@ -1,10 +1,11 @@
 // What can be asked of a state without an event. Nothing changes.
+// Users of the controller have this crate alone, so it hands on what the lines and the checks say.
 ghost use Rattle.std.specs.Prelude.{◌≡◌, false};
 ghost use Rattle.machine.specs.Lines as lines;
 ghost use Rattle.state.specs.View.{options_of, public};
 
-use state::bits::nibble;
 use state::state::{OPTIONS, State, VERSION};
+use translation::bits::nibble;
 
 // The status, which a host reads at port 64h.
 pub fn status(s: &State) -> u8

@@ -1,13 +1,17 @@
-// One event: its kind is looked at once, each kind makes its own checks, and the nine answer bytes are written.
-ghost use Rattle.std.specs.Prelude.{◌≡◌, false, ◌∷◌, ◌++◌, ◌≤◌, length, drop};
+// One event: its kind is looked at once, each kind makes its own checks, and the nine answer bytes are what it tells and what the lines show.
+// A kind is any byte of a list or of C's, and one that is none is answered too, by check 1: so it is a number as far as `act`. An answer has document 01's
+// nine bytes, with the number of the device and 0 for no frame: so its lines are six bytes as they stand in it, and the contract is one equation.
+ghost use Rattle.std.specs.Prelude.{◌≡◌, ℕ, List, false};
+ghost use Rattle.refusals.specs.Numbers.{outcome};
+ghost use Rattle.translation.specs.Bits.{weight};
 ghost use Rattle.machine.specs.Lines.{at_mode};
 ghost use Rattle.machine.specs.Events as events;
 ghost use Rattle.machine.specs.Events.{event};
 ghost use Rattle.state.specs.View.{public};
-ghost use Rattle.state.specs.Told.{EventTold};
-ghost use Rattle.controller.specs.Steps.{EventWritten, with_status, lines_laid};
+ghost use Rattle.state.specs.Told.{EventTold, own};
+ghost use Rattle.controller.specs.Steps.{EventReplied, with_status};
 
-use checks::host::read_refusal;
+use checks::host::check_read;
 use command_port::commands::command_event;
 use data_port::reads::read_data;
 use data_port::writes::data_event;
@@ -16,25 +20,34 @@ use devices::pins::pins_event;
 use devices::sending::{taken_event, timeout_event};
 use keyboard::keyboard::keyboard_event;
 use lines::lines::{at_mode, input_full, output_port, ps2_shown, status};
+use refusals::refusal::Refusal;
+use state::event::{Kind, Value};
 use state::state::{SENT, SENT_TO, State};
-use state::told::{Told, quiet};
+use state::told::Told;
 use translation::frames::frame_of;
 
-// The event, and what it itself tells. The byte that a read of 64h gives is left to the lines, which have it.
-fn act(s: &mut State, kind: u8, low: u8, high: u8) -> Told
-    ensures { EventTold s.old (event kind low high) s.new (with_status kind (public s.new) result) }
+// A read of 64h. The byte that it gives is left to the lines, which have it.
+fn read_status(value: Value) -> Result<Told, Refusal>
+    ensures { (s : List ℕ) → EventTold s (event 2 value.low value.high) s (with_status 2 (public s) (own result)) }
 {
-    match kind {
-        0 => read_data(s, low, high),
-        1 => data_event(s, low, high),
-        2 => quiet(read_refusal(low, high)),
-        3 => command_event(s, low, high),
-        4 => keyboard_event(s, low, high),
-        5 => mouse_event(s, low, high),
-        6 => taken_event(s, low, high),
-        7 => timeout_event(s, low, high),
-        8 => pins_event(s, low, high),
-        _ => quiet(1),
+    check_read(value)?;
+    Ok(Told::default())
+}
+
+// The event, and what it itself tells.
+fn act(s: &mut State, kind: u8, value: Value) -> Result<Told, Refusal>
+    ensures { EventTold s.old (event kind value.low value.high) s.new (with_status kind (public s.new) (own result)) }
+{
+    match Kind::try_from(kind)? {
+        Kind::ReadData => read_data(s, value),
+        Kind::WriteData => data_event(s, value),
+        Kind::ReadStatus => read_status(value),
+        Kind::WriteCommand => command_event(s, value),
+        Kind::KeyboardFrame => keyboard_event(s, value),
+        Kind::MouseFrame => mouse_event(s, value),
+        Kind::Taken => taken_event(s, value),
+        Kind::TimeOut => timeout_event(s, value),
+        Kind::Pins => pins_event(s, value),
     }
 }
 
@@ -45,74 +58,74 @@ fn sent_frame(s: &State) -> u16
     if input_full(s) { frame_of(s[SENT]) } else { 0 }
 }
 
-// The lines as they are now, in either mode; the pulse mask is the event's own.
-pub(crate) fn write_lines(s: &State, answers: &mut [u8])
-    requires { 9 ≤ length answers.old }
-    ensures { answers.new ≡ lines_laid (public s.now) answers.old }
+// The last six bytes of an answer: the lines as they are now, in either mode; the pulse mask is the event's own.
+#[tactic(auto, unfolding(machine::specs::Events::lines))]
+pub(crate) fn lines(s: &State, pulse: u8) -> [u8; 6]
+    ensures { result ≡ events.lines (public s.now) pulse }
 {
-    let shown = status(s);
-    let port = output_port(s);
-    let to = s[SENT_TO];
-    let frame = sent_frame(s);
-    answers[3] = shown;
-    answers[4] = port;
-    answers[6] = to;
-    answers[7] = (frame % 256) as u8;
-    answers[8] = (frame / 256) as u8;
+    let [low, high] = sent_frame(s).to_le_bytes();
+    [status(s), output_port(s), pulse, s[SENT_TO], low, high]
 }
 
-// The same in PS/2 mode, with fewer tests: IBF is 1 exactly where there is a frame to write.
-fn write_ps2_lines(s: &State, answers: &mut [u8])
-    requires { (9 ≤ length answers.old) × (at_mode (public s.now) ≡ false) }
-    ensures { answers.new ≡ lines_laid (public s.now) answers.old }
+// The same in PS/2 mode, with fewer tests: IBF is 1 exactly where there is a frame to show.
+fn ps2_lines(s: &State, pulse: u8) -> [u8; 6]
+    requires { at_mode (public s.now) ≡ false }
+    ensures { result ≡ events.lines (public s.now) pulse }
 {
     let shown = ps2_shown(s);
     if input_full(s) {
-        let to = s[SENT_TO];
-        let frame = frame_of(s[SENT]);
-        answers[3] = shown.status + 2;
-        answers[4] = shown.port;
-        answers[6] = to;
-        answers[7] = (frame % 256) as u8;
-        answers[8] = (frame / 256) as u8;
+        let [low, high] = frame_of(s[SENT]).to_le_bytes();
+        [shown.status + 2, shown.port, pulse, s[SENT_TO], low, high]
     } else {
-        answers[3] = shown.status;
-        answers[4] = shown.port;
-        answers[6] = 0;
-        answers[7] = 0;
-        answers[8] = 0;
+        [shown.status, shown.port, pulse, 0, 0, 0]
     }
 }
 
-// The nine bytes: what an event told, stored first, and the lines as they are now.
-fn write_answer(s: &State, t: Told, answers: &mut [u8])
-    requires { 9 ≤ length answers.old }
-    ensures { answers.new ≡ (t.refusal ∷ t.read ∷ t.old ∷ events.lines (public s.now) t.pulse) ++ drop 9 answers.old }
+fn lines_by_mode(s: &State, pulse: u8) -> [u8; 6]
+    ensures { result ≡ events.lines (public s.now) pulse }
 {
-    answers[0] = t.refusal;
-    answers[1] = t.read;
-    answers[2] = t.old;
-    answers[5] = t.pulse;
     if at_mode(s) {
-        write_lines(s, answers);
+        lines(s, pulse)
     } else {
-        write_ps2_lines(s, answers);
+        ps2_lines(s, pulse)
     }
 }
 
-// One event from any state, and its answer at the front of the buffer.
-pub(crate) fn respond(s: &mut State, kind: u8, low: u8, high: u8, answers: &mut [u8])
-    requires { 9 ≤ length answers.old }
-    ensures { EventWritten s.old (event kind low high) answers.old s.new answers.new }
+// The number of the check that refuses the event, 0 for none, and what the event tells, which is nothing where it is refused.
+fn numbered(answer: Result<Told, Refusal>) -> (u8, Told)
+    ensures { own answer ≡ record { refusal = result.0; read = result.1.read; old = weight 1 result.1.old; pulse = result.1.pulse } }
 {
-    let told = act(s, kind, low, high);
-    let number = told.refusal;
-    write_answer(s, told, answers);
-    if kind == 2 {
-        if number == 0 {
-            answers[1] = answers[3];
-        }
+    match answer {
+        Ok(told) => (0, told),
+        Err(refusal) => (refusal.into(), Told::default()),
     }
+}
+
+// The kind of a read of 64h.
+const READ_STATUS: u8 = 2;
+
+// One event from any state, and its answer. The lines are asked for once: so they are a part of this function, and no call.
+pub(crate) fn respond(s: &mut State, kind: u8, value: Value) -> [u8; 9]
+    ensures { EventReplied s.old (event kind value.low value.high) s.new result }
+{
+    let (number, told) = numbered(act(s, kind, value));
+    let [status, port, pulse, to, low, high] = lines_by_mode(s, told.pulse);
+    let read = if (kind == READ_STATUS) & (number == 0) {
+        status
+    } else {
+        told.read
+    };
+    [
+        number,
+        read,
+        told.old as u8,
+        status,
+        port,
+        pulse,
+        to,
+        low,
+        high,
+    ]
 }
 
 // The byte being sent; a state that keeps the body rules has 0 here with nobody.
@@ -122,9 +135,9 @@ pub fn sent_byte(s: &State) -> u8
     s[SENT]
 }
 
-// The number of the check that would refuse an event, 0 for none. Nothing is done.
-pub fn refusal(s: &State, kind: u8, low: u8, high: u8) -> u8
-    ensures { result ≡ events.refusal (public s.now) (event kind low high) }
+// The check that would refuse an event. Nothing is done.
+pub fn check_event(s: &State, kind: u8, value: Value) -> Result<(), Refusal>
+    ensures { outcome result ≡ events.refusal (public s.now) (event kind value.low value.high) }
 {
-    checks::events::refusal(s, kind, low, high)
+    checks::events::check_event(s, kind, value)
 }

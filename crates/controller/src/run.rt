@@ -1,16 +1,20 @@
 // A list of events: each writes its nine answer bytes, and the rest of the answer buffer is lent to the next.
-ghost use Rattle.std.specs.Prelude.{◌≡◌, ◌≤◌, ◌<◌, min, length};
+// List and buffer are two slices in each call, as C lends them, and a count is what C gets: a struct of them would be made to be taken apart. One event
+// alone pays for no recursion.
+ghost use Rattle.std.specs.Prelude.{◌≡◌, ℕ, ◌≤◌, ◌<◌, length};
+ghost use Rattle.refusals.specs.Numbers.{outcome};
 ghost use Rattle.translation.specs.KeyTable.{built_in};
 ghost use Rattle.machine.specs.Settings.{settings_of};
 ghost use Rattle.machine.specs.Events as events;
-ghost use Rattle.machine.specs.Events.{event};
 ghost use Rattle.machine.specs.Run.{first, length_refusal};
 ghost use Rattle.state.specs.View.{public};
-ghost use Rattle.controller.specs.Promises.{EventAnswered, FittingRun, ListRun, FreshRun, TableRun, CountedRun};
-ghost use Rattle.controller.specs.Steps.{EventWritten, piece_end};
+ghost use Rattle.controller.specs.Promises.{EventAnswered, FittingRun, ListRun, FreshRun, TableRun, CountedRun, counted};
+ghost use Rattle.controller.specs.Steps.{EventWritten};
 
-use crate::events::{respond, write_lines};
-use state::state::{State, start, start_with_table};
+use crate::events::{lines, respond};
+use refusals::refusal::Refusal;
+use state::event::Value;
+use state::state::{Setup, State, start, start_with_table};
 
 // The longest list that a call takes, in bytes.
 const LIST_MOST: usize = 21000;
@@ -25,10 +29,15 @@ fn run_one(s: &mut State, list: &[u8], answers: &mut [u8])
     requires { (3 ≤ length list.now) × (9 ≤ length answers.old) }
     ensures { EventWritten s.old (first list.now) answers.old s.new answers.new }
 {
-    respond(s, list[0], list[1], list[2], answers);
+    let value = Value {
+        low: list[1],
+        high: list[2],
+    };
+    answers[..9].copy_from_slice(&respond(s, list[0], value));
 }
 
-// Four events make a level of the recursion, so that its test and its call cost each of them a quarter. Each lends the rest of list and buffer on.
+// Four events make a level of the recursion, so that its test and its call cost each of them a quarter. One function for all four would test at each event,
+// and a const parameter cannot count down. Each lends the rest of list and buffer on.
 #[cycle(run_fours)]
 fn run_first(s: &mut State, list: &[u8], answers: &mut [u8])
     requires { (12 ≤ length list.now) × (36 ≤ length answers.old) }
@@ -89,19 +98,8 @@ fn run_last(s: &mut State, list: &[u8], answers: &mut [u8])
     }
 }
 
-// Where a piece ends that starts at some byte of a list.
-fn piece_end(done: usize, list: usize) -> usize
-    requires { done ≤ list }
-    ensures { (result ≡ piece_end list done) × (done ≤ result) × (result ≤ list) }
-{
-    if list - done < PIECE {
-        list
-    } else {
-        done + PIECE
-    }
-}
-
-// A list of any length, as far as the buffer has room: in pieces, so that the stack is never more than one of them needs.
+// A list of any length, as far as the buffer has room: in pieces, so that the stack is never more than one of them needs. The buffer is lent from a piece's
+// answers on, and not in chunks: of what `chunks_mut` lent, only the length is known afterwards.
 pub fn run_fitting(s: &mut State, list: &[u8], answers: &mut [u8])
     ensures { FittingRun s.old list.now answers.old s.new answers.new }
 {
@@ -109,97 +107,84 @@ pub fn run_fitting(s: &mut State, list: &[u8], answers: &mut [u8])
         run_last(s, list, answers);
         return;
     }
-    let mut done = 0;
-    let mut written = 0;
-    loop {
-        let end = piece_end(done, list.len());
-        run_on(s, &list[done..end], &mut answers[written..]);
-        if (list.len() == end) | (answers.len() - written < PIECE_ANSWERS) {
-            return;
-        }
-        done = end;
-        written += PIECE_ANSWERS;
+    let pieces = answers.len() / PIECE_ANSWERS + 1;
+    for (turn, events) in (0..pieces).zip(list.chunks(PIECE)) {
+        run_on(s, events, &mut answers[turn * PIECE_ANSWERS..]);
     }
 }
 
 // One event from any state, and its nine answer bytes.
-pub fn event(s: &mut State, kind: u8, low: u8, high: u8, answer: &mut [u8; 9])
-    ensures { EventAnswered s.old (event kind low high) s.new answer.new }
+pub fn event(s: &mut State, kind: u8, value: Value, answer: &mut [u8; 9])
+    ensures { EventAnswered s.old (events.event kind value.low value.high) s.new answer.new }
 {
-    respond(s, kind, low, high, answer);
+    *answer = respond(s, kind, value);
 }
 
 // What the lines show with no event.
+#[tactic(auto, unfolding(machine::specs::Events::lines))]
 pub fn show_lines(s: &State, answer: &mut [u8; 9])
     ensures { answer.new ≡ events.standing (public s.now) }
 {
-    answer[0] = 0;
-    answer[1] = 0;
-    answer[2] = 0;
-    answer[5] = 0;
-    write_lines(s, answer);
+    let [status, port, pulse, to, low, high] = lines(s, 0);
+    *answer = [0, 0, 0, status, port, pulse, to, low, high];
 }
 
 // The checks of a whole call.
-pub fn list_refusal(list: usize, space: usize) -> u8
-    ensures { result ≡ length_refusal list space }
+#[tactic(auto, unfolding(machine::specs::Run::length_refusal))]
+pub fn check_list(list: usize, space: usize) -> Result<(), Refusal>
+    ensures { outcome result ≡ length_refusal list space }
 {
     if list % 3 != 0 {
-        return 7;
+        return Err(Refusal::ListLength);
     }
     if LIST_MOST < list {
-        return 7;
+        return Err(Refusal::ListLength);
     }
-    if space < list * 3 { 8 } else { 0 }
+    if space < list * 3 {
+        return Err(Refusal::AnswerSpace);
+    }
+    Ok(())
 }
 
-// A list of at most 7,000 events, each answered: 0, or the number of the check that refuses the call.
-pub fn run(s: &mut State, list: &[u8], answers: &mut [u8]) -> u8
-    ensures { ListRun s.old list.now answers.old result s.new answers.new }
+// A list of at most 7,000 events, each answered; refused, nothing is done.
+pub fn run(s: &mut State, list: &[u8], answers: &mut [u8]) -> Result<(), Refusal>
+    ensures { ListRun s.old list.now answers.old (outcome result) s.new answers.new }
 {
-    let refusal = list_refusal(list.len(), answers.len());
-    if refusal != 0 {
-        return refusal;
-    }
+    check_list(list.len(), answers.len())?;
     run_fitting(s, list, answers);
-    0
+    Ok(())
 }
 
-// Runs a list from a start with the settings that the options name, a version byte and the built-in key table; the state is not kept.
-pub fn run_fresh(options: u8, version: u8, list: &[u8], answers: &mut [u8]) -> u8
-    ensures { FreshRun (settings_of options version built_in) list.now answers.old answers.new result }
+// Runs a list from a start with the built-in key table; the state is not kept.
+pub fn run_fresh(setup: Setup, list: &[u8], answers: &mut [u8]) -> Result<(), Refusal>
+    ensures { FreshRun (settings_of setup.options setup.version built_in) list.now answers.old answers.new (outcome result) }
 {
-    let mut s = start(options, version);
+    let mut s = start(setup);
     run(&mut s, list, answers)
 }
 
 // The same with a key table of the caller's, whose checks come before the list's.
-pub fn run_with_table(options: u8, version: u8, table: &[u8], list: &[u8], answers: &mut [u8]) -> u8
-    ensures { TableRun options version table.now list.now answers.old answers.new result }
+pub fn run_with_table(
+    setup: Setup,
+    table: &[u8],
+    list: &[u8],
+    answers: &mut [u8],
+) -> Result<(), Refusal>
+    ensures { TableRun setup.options setup.version table.now list.now answers.old answers.new (outcome result) }
 {
     let mut s = [0u8; 321];
-    let number = start_with_table(&mut s, options, version, table);
-    if number != 0 {
-        return number;
-    }
+    start_with_table(&mut s, setup, table)?;
     run(&mut s, list, answers)
 }
 
-// The lesser of two numbers.
-fn lesser(a: usize, b: usize) -> usize
-    ensures { result ≡ min a b }
-{
-    if a <= b { a } else { b }
-}
-
-// As many events of a list as the buffer has room for, and how many these are: 0, or 7 for a list that ends within an event.
-pub fn run_counted(s: &mut State, list: &[u8], answers: &mut [u8], count: &mut usize) -> u8
-    ensures { CountedRun s.old list.now answers.old count.old result s.new answers.new count.new }
+// As many events of a list as the buffer has room for, and how many these are; refused is a list that ends within an event.
+pub fn run_counted(s: &mut State, list: &[u8], answers: &mut [u8]) -> Result<usize, Refusal>
+    ensures { (count : ℕ) → CountedRun s.old list.now answers.old count (outcome result) s.new answers.new (counted count result) }
 {
     if list.len() % 3 != 0 {
-        return 7;
+        return Err(Refusal::ListLength);
     }
-    *count = lesser(answers.len() / 9, list.len() / 3);
+    let count = (answers.len() / 9).min(list.len() / 3);
     run_fitting(s, list, answers);
-    0
+    Ok(count)
 }

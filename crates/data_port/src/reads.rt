@@ -3,38 +3,34 @@ ghost use Rattle.machine.specs.State.{lift};
 ghost use Rattle.machine.specs.Events as events;
 ghost use Rattle.machine.specs.Events.{event};
 ghost use Rattle.state.specs.Changed.{Changed};
-ghost use Rattle.state.specs.Told.{EventTold};
+ghost use Rattle.state.specs.Told.{EventTold, own};
 
-use checks::host::read_refusal;
+use checks::host::check_read;
 use lines::lines::output_full;
-use state::bits::weight;
+use refusals::refusal::Refusal;
+use state::event::Value;
 use state::flags::with_output;
-use state::state::{FLAGS, OUTPUT, State, sized};
-use state::told::{Told, quiet};
+use state::state::{FLAGS, OUTPUT, State};
+use state::told::Told;
 
 // The byte stays, and is old from now on.
 fn empty(s: &mut State)
     ensures { Changed (lift events.emptied) s.old s.new }
 {
-    sized(*s);
     let flags = s[FLAGS];
     s[FLAGS] = with_output(flags, false, false);
 }
 
-pub fn read_data(s: &mut State, low: u8, high: u8) -> Told
-    ensures { EventTold s.old (event 0 low high) s.new result }
+pub fn read_data(s: &mut State, value: Value) -> Result<Told, Refusal>
+    ensures { EventTold s.old (event 0 value.low value.high) s.new (own result) }
 {
-    let number = read_refusal(low, high);
-    if number != 0 {
-        return quiet(number);
-    }
-    let byte = s[OUTPUT];
-    let old = weight(1, !output_full(s));
+    check_read(value)?;
+    let read = s[OUTPUT];
+    let old = !output_full(s);
     empty(s);
-    Told {
-        refusal: 0,
-        read: byte,
+    Ok(Told {
+        read,
         old,
-        pulse: 0,
-    }
+        ..Told::default()
+    })
 }

@@ -3,21 +3,24 @@ ghost use Rattle.std.specs.Prelude.{◌≡◌, cond, ◌<◌, get_or};
 ghost use Rattle.machine.specs.State.{lift};
 ghost use Rattle.machine.specs.DataPort as port;
 ghost use Rattle.machine.specs.Events.{event};
+ghost use Rattle.lines.specs.Devices.{number};
 ghost use Rattle.state.specs.View.{public};
 ghost use Rattle.state.specs.Changed.{Changed};
-ghost use Rattle.state.specs.Told.{EventTold};
+ghost use Rattle.state.specs.Told.{EventTold, own};
 
-use checks::host::write_refusal;
-use lines::lines::{at_mode, put, put_mouse, second_set};
-use lines::mode::{enable_keyboard, set_mode};
-use state::bits::nibble;
+use checks::host::check_write;
+use lines::device::Device;
+use lines::lines::{at_mode, put, put_from, second_set};
+use lines::mode::{enable, set_mode};
+use refusals::refusal::Refusal;
 use state::code::drop_code;
+use state::event::Value;
 use state::flags::with_command;
 use state::state::{
     CELL, CODE, FLAGS, HIGH_LATCHES, LATCHES, LENGTH, OPTIONS, PENDING, RAM, SENT, SENT_TO, State,
-    sized,
 };
-use state::told::{Told, quiet};
+use state::told::Told;
+use translation::bits::nibble;
 
 // A load takes this many code bytes.
 const CODE_MOST: u8 = 16;
@@ -26,7 +29,6 @@ const CODE_MOST: u8 = 16;
 fn settle(s: &mut State)
     ensures { Changed (lift port.settled) s.old s.new }
 {
-    sized(*s);
     s[PENDING] = 0;
     s[CELL] = 0;
 }
@@ -35,17 +37,15 @@ fn settle(s: &mut State)
 fn data_written(s: &mut State)
     ensures { Changed (lift port.data_written) s.old s.new }
 {
-    sized(*s);
     let flags = s[FLAGS];
     s[FLAGS] = with_command(flags, false);
 }
 
 // A byte handed to the transmitter.
-fn send(s: &mut State, to: u8, byte: u8)
-    ensures { Changed (lift (port.send to byte)) s.old s.new }
+fn send(s: &mut State, to: Device, byte: u8)
+    ensures { Changed (lift (port.send (number to) byte)) s.old s.new }
 {
-    sized(*s);
-    s[SENT_TO] = to;
+    s[SENT_TO] = to.number();
     s[SENT] = byte;
 }
 
@@ -53,8 +53,8 @@ fn send(s: &mut State, to: u8, byte: u8)
 fn send_keyboard(s: &mut State, byte: u8)
     ensures { Changed (lift (port.send_keyboard byte)) s.old s.new }
 {
-    enable_keyboard(s);
-    send(s, 1, byte);
+    enable(s, Device::Keyboard);
+    send(s, Device::Keyboard, byte);
 }
 
 // One of two lines.
@@ -75,7 +75,6 @@ fn high_writable(s: &State) -> bool
 fn latch(s: &mut State, v: u8)
     ensures { Changed (lift (port.latched v)) s.old s.new }
 {
-    sized(*s);
     let high = high_writable(s);
     let old = s[HIGH_LATCHES];
     let p22 = either(high, v / 4 % 2 == 1, old / 1 % 2 == 1);
@@ -88,7 +87,6 @@ fn latch(s: &mut State, v: u8)
 fn write_cell(s: &mut State, v: u8)
     ensures { Changed (lift (port.cell_written v)) s.old s.new }
 {
-    sized(*s);
     let k = s[CELL];
     if k < 32 {
         let at = RAM + (k as usize);
@@ -96,7 +94,7 @@ fn write_cell(s: &mut State, v: u8)
     }
 }
 
-// The pending codes that concern the public part alone.
+// The pending codes that concern the public part alone. Document 01 numbers the codes: the state's byte and an image hold the number.
 fn plain_data(s: &mut State, v: u8)
     ensures { Changed (lift (port.plain_data v)) s.old s.new }
 {
@@ -106,8 +104,8 @@ fn plain_data(s: &mut State, v: u8)
         2 => write_cell(s, v),
         4 => latch(s, v),
         5 => put(s, v),
-        6 => put_mouse(s, v),
-        7 => send(s, 2, v),
+        6 => put_from(s, Device::Mouse, v),
+        7 => send(s, Device::Mouse, v),
         _ => send_keyboard(s, v),
     }
 }
@@ -117,7 +115,6 @@ fn append(s: &mut State, v: u8)
     requires { get_or s.old 10 0 < 16 }
     ensures { Changed (port.appended v) s.old s.new }
 {
-    sized(*s);
     let n = s[LENGTH];
     let at = CODE + (n as usize);
     s[at] = v;
@@ -128,7 +125,6 @@ fn append(s: &mut State, v: u8)
 fn load_byte(s: &mut State, v: u8)
     ensures { Changed (port.load_byte v) s.old s.new }
 {
-    sized(*s);
     if v == 0 {
         settle(s);
         return;
@@ -155,13 +151,10 @@ fn write_data(s: &mut State, v: u8)
     }
 }
 
-pub fn data_event(s: &mut State, low: u8, high: u8) -> Told
-    ensures { EventTold s.old (event 1 low high) s.new result }
+pub fn data_event(s: &mut State, value: Value) -> Result<Told, Refusal>
+    ensures { EventTold s.old (event 1 value.low value.high) s.new (own result) }
 {
-    let number = write_refusal(s, low, high);
-    if number != 0 {
-        return quiet(number);
-    }
-    write_data(s, low);
-    quiet(0)
+    check_write(s, value)?;
+    write_data(s, value.low);
+    Ok(Told::default())
 }

@@ -1,6 +1,6 @@
 -- What a command that is looked up as itself leaves and does, though the set of the start does not have it. Assumes nothing.
 use Prim.Native.Nat.{ℕ, ◌<◌}
-use mathlib.Core.Path.{◌≡◌, refl, sym, ◌∙◌}
+use mathlib.Core.Path.{◌≡◌, refl, sym}
 use mathlib.Core.Bool.{Bool, true, false, cond, not, ◌&&◌}
 use lib.Dec.{eqb}
 use borrow.Author.Tests.{eqb-true, not-true}
@@ -62,11 +62,3 @@ module _ (x : Settings) (c : ℕ) where
       (λ other.
       let only : second_only (understood x c) ≡ true = simp other at own in
       not_both only ((understood-known x c).second one))
-
--- ---- heard, by what the program asked of the settings
-module _ (x : Settings) (c : ℕ) {a b : Bool} (is_at : a ≡ x.at_mode) (is_second : b ≡ x.second_set) where
-  pub heard_itself : (not a && not b) ≡ true → c ≡ heard x c
-  heard_itself h = simp (simp (is_at, is_second) at h)
-
-  pub heard-understood : {r : ℕ} → (not a && not b) ≡ false → r ≡ understood x c → r ≡ heard x c
-  heard-understood h same = same ∙ simp (simp (is_at, is_second) at h)

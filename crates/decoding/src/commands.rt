@@ -8,8 +8,8 @@ ghost use Rattle.state.specs.View.{public};
 ghost use Rattle.decoding.specs.Promises.{CommandDecoded, heard};
 
 use lines::lines::{at_mode, second_set};
-use state::bits::{nibble, within};
 use state::state::State;
+use translation::bits::{nibble, within};
 
 // A command of PS/2 mode alone.
 fn ps2_only(c: u8) -> bool
@@ -30,11 +30,7 @@ fn second_only(c: u8) -> bool
     ensures { result ≡ second.second_only c }
 {
     match c {
-        0x90..=0x9F => true,
-        0xA1 => true,
-        0xAF..=0xBF => true,
-        0xC8..=0xCA => true,
-        0xE1..=0xEF => true,
+        0x90..=0x9F | 0xA1 | 0xAF..=0xBF | 0xC8..=0xCA | 0xE1..=0xEF => true,
         _ => false,
     }
 }
@@ -64,7 +60,7 @@ fn heard(s: &State, c: u8) -> u8
     if not_in_set(s, c) { 0 } else { c }
 }
 
-// The pending code that each command byte leaves.
+// The pending code that each command byte leaves. Document 01 asks for this table and numbers the codes: the state and an image hold the number.
 const PENDING_CODES: [u8; 256] = [
     // 00h
     0, 0, 0, 0, 0, 0, 0, 0, 0, 0, 0, 0, 0, 0, 0, 0,
@@ -111,7 +107,7 @@ fn pending_of(c: u8) -> u8
 fn cell_named(c: u8) -> u8
     ensures { result ≡ command.cell_named c }
 {
-    if (0x61 <= c) & (c <= 0x7F) { c % 32 } else { 0 }
+    if within(0x61, 0x7F, c) { c % 32 } else { 0 }
 }
 
 // The lines of the output port that a command pulses, as a mask.

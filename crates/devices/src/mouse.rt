@@ -5,14 +5,16 @@ ghost use Rattle.machine.specs.State.{lift};
 ghost use Rattle.machine.specs.Devices as device;
 ghost use Rattle.machine.specs.Events.{event};
 ghost use Rattle.state.specs.Changed.{Changed};
-ghost use Rattle.state.specs.Told.{EventTold};
+ghost use Rattle.state.specs.Told.{EventTold, own};
 
-use checks::devices::mouse_refusal;
-use lines::lines::{locked, mouse_inhibited, put_mouse};
+use checks::devices::check_mouse;
+use lines::device::Device;
+use lines::lines::{locked, mouse_inhibited, put_from};
+use refusals::refusal::Refusal;
 use state::errors::{ERROR, set_errors};
+use state::event::Value;
 use state::state::State;
-use state::told::{Told, quiet};
-use translation::bits::word;
+use state::told::Told;
 use translation::frames::{Verdict, judge};
 
 // A byte for the host, unless locked or kept back by the key switch.
@@ -22,9 +24,10 @@ fn put_from_mouse(s: &mut State, byte: u8)
     if locked(s) | mouse_inhibited(s) {
         return;
     }
-    put_mouse(s, byte);
+    put_from(s, Device::Mouse, byte);
 }
 
+// The two errors are bits of the flags, in the definition's order: a struct of them would be taken apart at once.
 fn damaged_mouse(s: &mut State, terr: bool, perr: bool)
     ensures { Changed (lift (λ p. device.mouse_put 0xFF (device.errors_set terr perr p))) s.old s.new }
 {
@@ -39,7 +42,8 @@ fn sound_mouse(s: &mut State, byte: u8)
     put_from_mouse(s, byte);
 }
 
-// What the frame does. Noise does nothing.
+// What the frame does. Noise does nothing. The keyboard's frames have the same cases, but each does there what no other device's does: the break
+// flag, the lock and the translation.
 fn mouse_frame(s: &mut State, v: Verdict)
     ensures { Changed (lift (device.mouse_frame (verdict v))) s.old s.new }
 {
@@ -51,12 +55,10 @@ fn mouse_frame(s: &mut State, v: Verdict)
     }
 }
 
-pub fn mouse_event(s: &mut State, low: u8, high: u8) -> Told
-    ensures { EventTold s.old (event 5 low high) s.new result }
+pub fn mouse_event(s: &mut State, value: Value) -> Result<Told, Refusal>
+    ensures { EventTold s.old (event 5 value.low value.high) s.new (own result) }
 {
-    let number = mouse_refusal(s, low, high);
-    if number == 0 {
-        mouse_frame(s, judge(word(low, high)));
-    }
-    quiet(number)
+    check_mouse(s, value)?;
+    mouse_frame(s, judge(value.word()));
+    Ok(Told::default())
 }

@@ -1,5 +1,7 @@
 -- "Saved image", an image of either edition read: checks 10 and 11, and the body as edition 2 has it (document 02, W9).
-use Rattle.std.specs.Prelude.{ℕ, ◌≡◌, cond, List, [], ◌∷◌, ◌++◌, take, eqb}
+use Rattle.std.specs.Prelude.{ℕ, ◌≡◌, cond, List, [], ◌∷◌, ◌++◌, take, eqb, Result, IfOk}
+use Rattle.refusals.specs.declared.refusal.Refusal.{Refusal}
+use Rattle.refusals.specs.Numbers.{outcome}
 use Rattle.image_bytes.specs.Checks.{first_of}
 use Rattle.image_bytes.specs.Layout.{body_length}
 use Rattle.image_bytes.specs.Find.{body_size, found}
@@ -23,8 +25,7 @@ body_refusal b = cond (body_kept (completed b)) 0 11
 abbrev pub image_refusal : List ℕ → ℕ
 image_refusal bytes = first_of (find_refusal bytes) (body_refusal (found bytes))
 
--- An image read: refused by its number with the caller's bytes as they were, or they are its body.
-pub record BodyRead (bytes body : List ℕ) (number : ℕ) (body' : List ℕ) : Type 0 where
-  pub refusal : number ≡ image_refusal bytes
-  pub refused : (image_refusal bytes ≡ 0 → ⊥) → body' ≡ body
-  pub taken : image_refusal bytes ≡ 0 → body' ≡ completed (found bytes)
+-- An image read: refused by its number, or its body as edition 2 has it.
+pub record BodyRead (bytes : List ℕ) (answer : Result (List ℕ) Refusal) : Type 0 where
+  pub refusal : outcome answer ≡ image_refusal bytes
+  pub body : IfOk answer (λ b. b ≡ completed (found bytes))

@@ -1,4 +1,4 @@
-// The image at the end of a caller's bytes, as `image_bytes` finds it.
+// The image at the end of a caller's bytes, as `image_bytes` finds it. What a layer does is had from its top crate: so this one hands on both.
 ghost use Rattle.std.specs.Prelude.{◌≡◌};
 ghost use Rattle.image_bytes.specs.Find as spec;
 ghost use Rattle.image_bytes.specs.Find.{BodyFound};

@@ -2,7 +2,6 @@
 pub mod Checks
 pub mod Sum
 pub mod Layout
-pub mod Copy
 pub mod Seal
 pub mod Find
 pub mod Trailer

@@ -1,13 +1,15 @@
 -- "Saved image", what stands around a body: the trailer behind it, and how long the parts are.
 use Rattle.std.specs.Prelude.{ℕ, ◌+◌, List, [], ◌∷◌, ◌++◌, length}
+use Rattle.image_bytes.specs.declared.edition.Edition.TheVariants.{First, Second}
+use Rattle.image_bytes.specs.Edition.{size}
 use Rattle.image_bytes.specs.Sum.{low_byte, high_byte, word_sum}
 
 -- How many bytes a body of edition 1 has, and one of edition 2, which a save writes (document 02, W9).
 abbrev pub first_length : ℕ
-first_length = 60
+first_length = size First
 
 abbrev pub body_length : ℕ
-body_length = 64
+body_length = size Second
 
 -- a trailer, and the image that a save writes
 abbrev pub trailer_length : ℕ

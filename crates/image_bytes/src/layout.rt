@@ -7,31 +7,31 @@ use crate::sum::word_sum;
 // How many bytes a body of edition 1 has.
 pub const FIRST_BODY: usize = 60;
 
-pub const FIRST_EDITION: u8 = 1;
-
 // A body of edition 2, and the image that a save writes.
 pub const BODY: usize = 64;
-
-pub const EDITION: u8 = 2;
 
 pub const TRAILER: usize = 8;
 
 pub const IMAGE: usize = 72;
 
+// What a trailer ends with.
+pub(crate) const MARK: [u8; 3] = [0x4B, 0x42, 0x43];
+
 // The trailer of a body.
+#[tactic(auto, unfolding(crate::specs::Layout::trailer))]
 pub(crate) fn trailer(edition: u8, body: &[u8]) -> [u8; 8]
     ensures { result ≡ layout.trailer edition body.now }
 {
-    let distance = body.len();
-    let total = word_sum(body);
+    let distance = body.len().to_le_bytes();
+    let total = word_sum(body).to_le_bytes();
     [
-        (distance % 256) as u8,
-        (distance / 256 % 256) as u8,
-        (total % 256) as u8,
-        (total / 256 % 256) as u8,
+        distance[0],
+        distance[1],
+        total[0],
+        total[1],
         edition,
-        0x4B,
-        0x42,
-        0x43,
+        MARK[0],
+        MARK[1],
+        MARK[2],
     ]
 }

@@ -1,25 +1,24 @@
 // An image written to a caller's bytes.
+ghost use Rattle.std.specs.Prelude.{ℕ};
+ghost use Rattle.refusals.specs.Numbers.{outcome};
 ghost use Rattle.image_bytes.specs.Layout.{sealed};
 ghost use Rattle.image_bytes.specs.Seal.{Written};
 
 use crate::layout::{TRAILER, trailer};
+use refusals::refusal::Refusal;
 
-// Check 9: the space is short.
-pub const SHORT_SPACE: u8 = 9;
-
-// Writes a body with its trailer to the front of `out` and returns 0; or returns the refusal and leaves `out` as it was.
-pub fn seal(edition: u8, body: &[u8], out: &mut [u8]) -> u8
-    ensures { Written (sealed edition body.now) out.old result out.new }
+// Writes a body with its trailer to the front of `out`; or refuses a space that is short and leaves it as it was. The trailer names the edition as a
+// number, which may be any.
+pub fn seal<E: Into<u8>>(edition: E, body: &[u8], out: &mut [u8]) -> Result<(), Refusal>
+    ensures { (n : ℕ) × E.converts edition n × Written (sealed n body.now) out.old (outcome result) out.new }
 {
-    if out.len() < TRAILER {
-        return SHORT_SPACE;
+    let number = edition.into();
+    if out.len() < TRAILER || out.len() - TRAILER < body.len() {
+        return Err(Refusal::ImageSpace);
     }
-    if out.len() - TRAILER < body.len() {
-        return SHORT_SPACE;
-    }
-    let end = trailer(edition, body);
+    let end = trailer(number, body);
     let at = body.len();
-    byte_copy::copy(body, out);
-    byte_copy::copy(&end, &mut out[at..]);
-    0
+    out[..at].copy_from_slice(body);
+    out[at..at + TRAILER].copy_from_slice(&end);
+    Ok(())
 }

@@ -7,23 +7,23 @@ ghost use Rattle.machine.specs.Devices as device;
 ghost use Rattle.machine.specs.Events.{event};
 ghost use Rattle.state.specs.View.{public};
 ghost use Rattle.state.specs.Changed.{Changed};
-ghost use Rattle.state.specs.Told.{EventTold};
+ghost use Rattle.state.specs.Told.{EventTold, own};
 
 use crate::lock::{set_position, try_key};
-use checks::devices::keyboard_refusal;
+use checks::devices::check_keyboard;
 use lines::lines::{entry, inhibited, locked, put, translates};
+use refusals::refusal::Refusal;
 use state::errors::{ERROR, set_errors};
+use state::event::Value;
 use state::flags::with_breaks;
-use state::state::{FLAGS, State, sized};
-use state::told::{Told, quiet};
-use translation::bits::word;
+use state::state::{FLAGS, State};
+use state::told::Told;
 use translation::frames::{Verdict, judge};
-use translation::scan_codes::{Translated, Yield, raw, translate};
+use translation::scan_codes::{Translated, raw, translate};
 
 fn set_breaks(s: &mut State, breaks: bool)
     ensures { Changed (lift (device.breaking breaks)) s.old s.new }
 {
-    sized(*s);
     let flags = s[FLAGS];
     s[FLAGS] = with_breaks(flags, breaks);
 }
@@ -38,6 +38,7 @@ fn key_error(s: &mut State)
     put(s, ERROR);
 }
 
+// The two errors are bits of the flags, in the definition's order: a struct of them would be taken apart at once.
 fn damaged_key(s: &mut State, terr: bool, perr: bool)
     ensures { Changed (device.damaged_key terr perr) s.old s.new }
 {
@@ -62,13 +63,12 @@ fn deliver_byte(s: &mut State, x: u8)
     }
 }
 
-// A code that the translation yielded.
-fn deliver_yield(s: &mut State, yields: Yield)
+// The code, if any, that the translation yielded.
+fn deliver_yield(s: &mut State, yields: Option<u8>)
     ensures { Changed (device.yield_delivered (yielded yields)) s.old s.new }
 {
-    match yields {
-        Yield::Nothing => {}
-        Yield::Byte(x) => deliver_byte(s, x),
+    if let Some(x) = yields {
+        deliver_byte(s, x);
     }
 }
 
@@ -94,10 +94,9 @@ fn sound_key(s: &mut State, byte: u8)
     ensures { Changed (device.sound_key byte) s.old s.new }
 {
     let t = translated(s, byte);
-    let yields = t.yields;
     set_errors(s, false, false);
     set_breaks(s, t.breaks);
-    deliver_yield(s, yields);
+    deliver_yield(s, t.yields);
 }
 
 // What the frame does. Noise does nothing.
@@ -112,12 +111,10 @@ fn keyboard_frame(s: &mut State, v: Verdict)
     }
 }
 
-pub fn keyboard_event(s: &mut State, low: u8, high: u8) -> Told
-    ensures { EventTold s.old (event 4 low high) s.new result }
+pub fn keyboard_event(s: &mut State, value: Value) -> Result<Told, Refusal>
+    ensures { EventTold s.old (event 4 value.low value.high) s.new (own result) }
 {
-    let number = keyboard_refusal(s, low, high);
-    if number == 0 {
-        keyboard_frame(s, judge(word(low, high)));
-    }
-    quiet(number)
+    check_keyboard(s, value)?;
+    keyboard_frame(s, judge(value.word()));
+    Ok(Told::default())
 }

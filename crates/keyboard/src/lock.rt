@@ -6,19 +6,17 @@ use crate::lock_code::{ignored, reach};
 use lines::lines::put_cell;
 use state::code::code_length;
 use state::flags::with_locked;
-use state::state::{FLAGS, POSITION, State, sized};
+use state::state::{FLAGS, POSITION, State};
 
 pub(crate) fn set_position(s: &mut State, k: u8)
     ensures { Changed (device.positioned k) s.old s.new }
 {
-    sized(*s);
     s[POSITION] = k;
 }
 
 fn clear_lock(s: &mut State)
     ensures { Changed device.lock_cleared s.old s.new }
 {
-    sized(*s);
     let flags = s[FLAGS];
     s[FLAGS] = with_locked(flags, false);
     s[POSITION] = 0;

@@ -6,7 +6,7 @@ ghost use Rattle.state.specs.View.{public, view, code_of};
 
 use lines::lines::cell;
 use state::code::code_length;
-use state::state::{CODE, POSITION, State, sized};
+use state::state::{CODE, POSITION, State};
 
 // A byte that is no key of a code.
 pub fn ignored(s: &State, x: u8) -> bool
@@ -20,16 +20,7 @@ fn repeats(s: &State, k: usize, n: usize) -> bool
     requires { (n ≤ k) × (k ≤ length (code_of s.now)) × (k ≤ 16) }
     ensures { let code = code_of s.now in result ≡ lock.end_with (lock.begun code k) (take n code) }
 {
-    sized(*s);
-    let by = k - n;
-    let mut left = n;
-    while 0 < left {
-        left -= 1;
-        if s[CODE + left] != s[CODE + (by + left)] {
-            return false;
-        }
-    }
-    true
+    s[CODE..CODE + k].ends_with(&s[CODE..CODE + n])
 }
 
 // The longest beginning of the code, of at most k bytes, that its first k bytes and then x end with. Searched from the longest down:
@@ -38,16 +29,10 @@ fn fall_back(s: &State, x: u8, k: usize) -> usize
     requires { (k ≤ length (code_of s.now)) × (k ≤ 16) }
     ensures { (let code = code_of s.now in result ≡ lock.longest code k (x ∷ lock.begun code k)) × (result ≤ k) }
 {
-    sized(*s);
-    let mut n = k;
-    while 0 < n {
-        let last = n - 1;
-        if x == s[CODE + last] {
-            if repeats(s, k, last) {
-                return n;
-            }
+    for last in (0..k).rev() {
+        if x == s[CODE + last] && repeats(s, k, last) {
+            return last + 1;
         }
-        n = last;
     }
     0
 }
@@ -56,7 +41,6 @@ fn fall_back(s: &State, x: u8, k: usize) -> usize
 pub fn reach(s: &State, x: u8) -> usize
     ensures { (let secret = (view s.now).secret in result ≡ lock.longest secret.code (length secret.code) (x ∷ lock.begun secret.code secret.position)) × (result ≤ 16) }
 {
-    sized(*s);
     let n = code_length(s);
     let position = s[POSITION];
     if n <= position {

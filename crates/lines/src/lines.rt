@@ -1,17 +1,20 @@
-// What the state shows: the mode byte's bits, status, the output port, and a byte put for the host.
+// What the state shows: the mode byte's bits, status, the output port, and a byte put for the host. The two modes have other lines on P2, so each has a
+// sum of its own. The definition has 0 past the RAM, and document 01 has 0 in a cell for no byte: so neither is an Option.
 ghost use Rattle.std.specs.Prelude.{◌≡◌, false, ◌+◌, ◌*◌, ◌≤◌, get_or};
 ghost use Rattle.machine.specs.State.{lift};
 ghost use Rattle.translation.specs.Bits as bits;
 ghost use Rattle.machine.specs.Lines as lines;
+ghost use Rattle.lines.specs.Devices as devices;
 ghost use Rattle.state.specs.View.{public};
 ghost use Rattle.state.specs.Changed.{KeptChange};
 
-use state::bits::{nibble, upper, weight};
+use crate::device::Device;
 use state::flags::with_output;
 use state::state::{
     FLAGS, HIGH_LATCHES, INPUT_LATCHES, LATCHES, MODE, NIBBLE, OPTIONS, OUTPUT, OVERLAY, PINS, RAM,
-    SENT_TO, State, TABLE, TTIM, sized,
+    SENT_TO, State, TABLE, TTIM,
 };
+use translation::bits::{nibble, upper, weight};
 
 // Started in AT mode, else in PS/2 mode.
 pub fn at_mode(s: &State) -> bool
@@ -31,7 +34,6 @@ pub fn second_set(s: &State) -> bool
 pub fn cell(s: &State, k: u8) -> u8
     ensures { result ≡ lines.cell_of (public s.now) k }
 {
-    sized(*s);
     if k < 32 {
         let at = RAM + (k as usize);
         s[at]
@@ -44,18 +46,18 @@ pub fn cell(s: &State, k: u8) -> u8
 pub fn entry(s: &State, byte: u8) -> u8
     ensures { result ≡ get_or (public s.now).settings.table byte 0 }
 {
-    sized(*s);
     let at = TABLE + (byte as usize);
     s[at]
 }
 
-// The mode byte: cell 0 of the RAM.
+// The mode byte: cell 0 of the RAM. Each of its bits is a question by the name that document 01 gives it.
 pub fn mode(s: &State) -> u8
     ensures { result ≡ lines.mode (public s.now) }
 {
     s[MODE]
 }
 
+// Whether a device is off is one bit for each, which the definition names: with the device as a parameter it would name none.
 pub fn keyboard_off(s: &State) -> bool
     ensures { result ≡ lines.keyboard_off (public s.now) }
 {
@@ -275,24 +277,20 @@ pub fn ps2_shown(s: &State) -> Shown
     }
 }
 
-// A byte for the host to read, from the keyboard or the controller itself.
-pub fn put(s: &mut State, byte: u8)
-    ensures { KeptChange (lift (lines.put byte)) s.old s.new }
+// A byte for the host to read, from this device.
+pub fn put_from(s: &mut State, device: Device, byte: u8)
+    ensures { KeptChange (lift (devices.put_from device byte)) s.old s.new }
 {
-    sized(*s);
     let flags = s[FLAGS];
-    s[FLAGS] = with_output(flags, true, false);
+    s[FLAGS] = with_output(flags, true, device == Device::Mouse);
     s[OUTPUT] = byte;
 }
 
-// A byte for the host to read, from the mouse.
-pub fn put_mouse(s: &mut State, byte: u8)
-    ensures { KeptChange (lift (lines.put_mouse byte)) s.old s.new }
+// The same from the keyboard, and as the keyboard's of the controller itself.
+pub fn put(s: &mut State, byte: u8)
+    ensures { KeptChange (lift (lines.put byte)) s.old s.new }
 {
-    sized(*s);
-    let flags = s[FLAGS];
-    s[FLAGS] = with_output(flags, true, true);
-    s[OUTPUT] = byte;
+    put_from(s, Device::Keyboard, byte);
 }
 
 // A cell of the RAM put, unless it is 0.

@@ -16,7 +16,3 @@ line bytes = spaced bytes ++ 10 ∷ []
 unfoldable pub lines : ℕ → List ℕ → List ℕ
 lines zero bytes = []
 lines (suc n) bytes = line (take 9 bytes) ++ lines n (drop 9 bytes)
-
--- one byte of a line and what stands after it
-abbrev pub field : ℕ → ℕ → List ℕ
-field byte after = hex_byte byte ++ after ∷ []

@@ -1,5 +1,7 @@
 -- "Answers and the printing program": what panelrun prints for a list of bytes.
-use Rattle.std.specs.Prelude.{ℕ, ◌≡◌, Bool, cond, ◌&&◌, List, [], ◌∷◌, ◌++◌, length, drop, eqb, leb}
+use Rattle.std.specs.Prelude.{ℕ, ◌≡◌, Bool, cond, ◌&&◌, List, [], ◌∷◌, ◌++◌, length, drop, eqb, leb, Option, Some, None}
+use Rattle.refusals.specs.declared.refusal.Refusal.{Refusal}
+use Rattle.refusals.specs.Numbers.{number}
 use Rattle.machine.specs.Settings.{Settings}
 use Rattle.machine.specs.State.{fresh}
 use Rattle.machine.specs.Run.{events, answers, length_refusal}
@@ -47,10 +49,20 @@ room x list space out = leb (length (answered x list)) (length space) && leb (le
 abbrev pub print_refusal : Settings → List ℕ → List ℕ → List ℕ → ℕ
 print_refusal x list space out = cond (refused list) 7 (cond (room x list space out) 0 8)
 
--- The page of a list in one buffer, its answers in the other, and the page's length; or, where there is no room, the buffers as they
--- were, and 0, which is the length of no page.
+-- The page of a list in one buffer, its answers in the other, and the page's length.
+pub record Paged (x : Settings) (list space out : List ℕ) (r : ℕ) (space' out' : List ℕ) : Type 0 where
+  pub count : r ≡ length (page x list)
+  pub answers : space' ≡ over (answered x list) space
+  pub text : out' ≡ over (page x list) out
+
+-- the number of the check that refuses, and 0 where none does
+abbrev pub told : Option Refusal → ℕ
+told None = 0
+told (Some r) = number r
+
+-- The same; or, where there is no room, the buffers as they were, and 0, which is the length of no page.
 pub record Printed (x : Settings) (list space out : List ℕ) (r : Printout) (space' out' : List ℕ) : Type 0 where
-  pub refusal : r.refusal ≡ print_refusal x list space out
+  pub refusal : told r.refusal ≡ print_refusal x list space out
   pub count : r.written ≡ cond (room x list space out) (length (page x list)) 0
   pub answers : space' ≡ cond (room x list space out) (over (answered x list) space) space
   pub text : out' ≡ cond (room x list space out) (over (page x list) out) out

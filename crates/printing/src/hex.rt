@@ -1,18 +1,15 @@
 // A byte in hexadecimal.
-ghost use Rattle.std.specs.Prelude.{◌≡◌, ◌<◌};
-ghost use Rattle.printing.specs.Hex.{hex_digit, hex_byte};
+ghost use Rattle.std.specs.Prelude.{◌≡◌};
+ghost use Rattle.printing.specs.Hex.{hex_byte};
 
-// A digit: 0 to 9, then capital letters.
-fn digit(n: u8) -> u8
-    requires { n < 16 }
-    ensures { result ≡ hex_digit n }
-{
-    if n < 10 { b'0' + n } else { b'A' + (n - 10) }
-}
+// 0 to 9, then capital letters. The library's `{:02X}` goes to a writer alone, whose writes may fail, and `hex` asks for memory or gives small letters.
+const DIGITS: [u8; 16] = *b"0123456789ABCDEF";
 
 // A byte as two digits, the high one first.
 pub fn two_digits(byte: u8) -> [u8; 2]
     ensures { result ≡ hex_byte byte }
 {
-    [digit(byte / 16), digit(byte % 16)]
+    let high = usize::from(byte / 16);
+    let low = usize::from(byte % 16);
+    [DIGITS[high], DIGITS[low]]
 }

@@ -1,41 +1,32 @@
-// Lines of bytes in hexadecimal, each written to the front of a buffer whose rest is handed on.
-ghost use Rattle.std.specs.Prelude.{◌≡◌, ◌++◌, ◌*◌, ◌≤◌, length, drop};
-ghost use Rattle.printing.specs.Lines.{field, line, lines};
+// Lines of bytes in hexadecimal. Of a buffer that is lent in parts, as by `chunks_exact_mut`, the library does not say what it holds in the end, so
+// the place of each part is counted.
+ghost use Rattle.std.specs.Prelude.{◌≡◌, ◌++◌, ◌*◌, ◌/◌, ◌≤◌, length, drop};
+ghost use Rattle.printing.specs.Lines.{line, lines};
 
 use crate::hex::two_digits;
 
-// Two digits and the byte that stands after them.
-fn write_field(byte: u8, after: u8, out: &mut [u8])
-    requires { 3 ≤ length out.old }
-    ensures { out.new ≡ field byte after ++ drop 3 out.old }
+// Nine bytes as a line: a space after each, and LF in place of the last.
+fn line(bytes: &[u8; 9]) -> [u8; 27]
+    ensures { result ≡ line bytes.now }
 {
-    let digits = two_digits(byte);
-    out[0] = digits[0];
-    out[1] = digits[1];
-    out[2] = after;
+    let mut text = [0; 27];
+    for (i, byte) in bytes.iter().enumerate() {
+        let [high, low] = two_digits(*byte);
+        let at = 3 * i;
+        text[at..at + 3].copy_from_slice(&[high, low, b' ']);
+    }
+    text[26] = b'\n';
+    text
 }
 
-// A line: a space after each byte, and LF after the last.
-fn write_line(bytes: &[u8], out: &mut [u8])
-    requires { (1 ≤ length bytes.now) × (3 * length bytes.now ≤ length out.old) }
-    ensures { out.new ≡ line bytes.now ++ drop (3 * length bytes.now) out.old }
+// A line for each nine bytes.
+pub(crate) fn write_lines(answers: &[u8], out: &mut [u8])
+    requires { 27 * (length answers.now / 9) ≤ length out.old }
+    ensures { let n = length answers.now / 9 in out.new ≡ lines n answers.now ++ drop (27 * n) out.old }
 {
-    if bytes.len() == 1 {
-        write_field(bytes[0], b'\n', out);
-        return;
+    let (nines, _) = answers.as_chunks::<9>();
+    for (i, nine) in nines.iter().enumerate() {
+        let at = 27 * i;
+        out[at..at + 27].copy_from_slice(&line(nine));
     }
-    write_field(bytes[0], b' ', out);
-    write_line(&bytes[1..], &mut out[3..]);
-}
-
-// A line for each nine bytes, as many as are asked for.
-pub(crate) fn write_lines(count: usize, answers: &[u8], out: &mut [u8])
-    requires { (9 * count ≤ length answers.now) × (27 * count ≤ length out.old) }
-    ensures { out.new ≡ lines count answers.now ++ drop (27 * count) out.old }
-{
-    if count == 0 {
-        return;
-    }
-    write_line(&answers[..9], out);
-    write_lines(count - 1, &answers[9..], &mut out[27..]);
 }

@@ -14,7 +14,6 @@ use Rattle.state.specs.Started.{TableStarted}
 use Rattle.machine.proofs.Laws.Run.{take-filled, list_refusal-length}
 use Rattle.controller.specs.Promises.{table_run_refusal, TableRun, FittingRun}
 use Rattle.secrecy.specs.Compared.{begun, ListsCompared, FittingCompared}
-use Rattle.secrecy.specs.declared.compare.Numbers.{Numbers}
 use Rattle.secrecy.proofs.Paired.{secret-answers, secret-take}
 
 -- buffers filled with equal answers begin alike
@@ -25,10 +24,10 @@ begin_alike m es fs s t same equal one other =
 
 -- ---- ListsCompared
 -- two runs with one table: demand 3 for whichever table passes the checks
-pub compared : {options version : ℕ} {table xs s s' ys t t' : List ℕ} {r : Numbers} →
-    TableRun options version table xs s s' r.first →
-    TableRun options version table ys t t' r.second →
-    ListsCompared options version table xs s s' ys t t' r
+pub compared : {options version : ℕ} {table xs s s' ys t t' : List ℕ} {first second : ℕ} →
+    TableRun options version table xs s s' first →
+    TableRun options version table ys t t' second →
+    ListsCompared options version table xs s s' ys t t' first second
 compared {options} {version} {table} {xs} {s} {ys = ys} {t = t} one other =
     let alike : length xs ≡ length ys → length s ≡ length t → table_run_refusal table xs s ≡ table_run_refusal table ys t =
     λ p q. ap (λ (n : ℕ). cond (eqb (table_refusal table) 0) n (table_refusal table)) (list_refusal-length xs ys s t p q) in

@@ -7,7 +7,6 @@ use Rattle.machine.specs.State.{Machine, fresh}
 use Rattle.machine.specs.Run.{events, filled, fitting}
 use Rattle.controller.specs.Promises.{TableRun}
 use Rattle.secrecy.specs.Paired.{Paired}
-use Rattle.secrecy.specs.declared.compare.Numbers.{Numbers}
 
 -- the machine that both start from
 abbrev pub begun : ℕ → ℕ → List ℕ → Machine
@@ -15,11 +14,11 @@ begun options version table = fresh (settings_of options version table)
 
 -- Two lists run by whole calls. Paired lists of one length, given buffers of one length, are refused by the same number, or the answers
 -- written are the same.
-pub record ListsCompared (options version : ℕ) (table xs s s' ys t t' : List ℕ) (r : Numbers) : Type 0 where
-  pub one : TableRun options version table xs s s' r.first
-  pub other : TableRun options version table ys t t' r.second
-  pub numbers : length xs ≡ length ys → length s ≡ length t → r.first ≡ r.second
-  pub answers : Paired (begun options version table) (events xs) (events ys) → length xs ≡ length ys → length s ≡ length t → r.first ≡ 0
+pub record ListsCompared (options version : ℕ) (table xs s s' ys t t' : List ℕ) (first second : ℕ) : Type 0 where
+  pub one : TableRun options version table xs s s' first
+  pub other : TableRun options version table ys t t' second
+  pub numbers : length xs ≡ length ys → length s ≡ length t → first ≡ second
+  pub answers : Paired (begun options version table) (events xs) (events ys) → length xs ≡ length ys → length s ≡ length t → first ≡ 0
       → take (9 * length (events xs)) s' ≡ take (9 * length (events xs)) t'
 
 -- Two lists of any length, run as far as the buffers have room; or neither, where the table is refused.

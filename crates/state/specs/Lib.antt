@@ -1,4 +1,5 @@
 pub mod Flags
+pub mod Kinds
 pub mod View
 pub mod Changed
 pub mod Told

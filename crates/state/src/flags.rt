@@ -1,8 +1,9 @@
 // The flags of the state, seven bits in a byte: one or two of them replaced, the others kept. Bit 7, which is no flag, stays as it was.
+// Each replaces what one rule names, and its caller stores the byte: with the bit as a parameter a contract would name no rule.
 ghost use Rattle.state.specs.Flags as flags;
 ghost use Rattle.state.specs.Flags.{flags_of, Reflagged};
 
-use crate::bits::weight;
+use translation::bits::weight;
 
 // OBF and mouse source.
 pub fn with_output(f: u8, full: bool, mouse: bool) -> u8

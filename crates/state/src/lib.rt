@@ -1,9 +1,9 @@
 // The state of a controller: its bytes, and small access to them.
 #![tactic(auto)]
 
-pub mod bits;
 pub mod code;
 pub mod errors;
+pub mod event;
 pub mod flags;
 pub mod state;
 pub mod told;

@@ -1,15 +1,20 @@
 // The controller's state: bytes that a run changes in place. The first 64 are those of a saved image's body; the version byte and the key table,
 // which are in no image, stand behind them.
 ghost use Rattle.std.specs.Prelude.{◌≡◌, ◌++◌, length, take};
+ghost use Rattle.refusals.specs.Numbers.{outcome};
 ghost use Rattle.translation.specs.KeyTable.{built_in};
 ghost use Rattle.machine.specs.Settings.{settings_of};
 ghost use Rattle.machine.specs.State.{fresh};
 ghost use Rattle.state.specs.View.{state_length, state_of, view};
 ghost use Rattle.state.specs.Started.{Started, TableStarted};
 
-use crate::bits::nibble;
-use translation::key_table::{built_in, table_refusal};
+use refusals::refusal::Refusal;
+use translation::bits::nibble;
+use translation::key_table::{built_in, check_table};
 
+// C holds a state as bytes, its first 64 are an image's, and every value of them has an answer: so it is no struct with fields, a flag may stand
+// beside the byte that it is of, and contracts see it by `view` and `public`. What changes it is a function by the name of a rule: one that stores any
+// byte at any place would promise bytes, and no rule.
 pub type State = [u8; 321];
 
 // The output byte, which the host reads at port 60h.
@@ -68,60 +73,48 @@ pub const VERSION: usize = 64;
 // The key table, which no event changes.
 pub const TABLE: usize = 65;
 
-// Tells the proofs the length that the type has, which they cannot see for an array behind a reference. It compiles to nothing.
-pub fn sized(s: State)
-    ensures { length s ≡ state_length }
-{}
-
-// The state with this key table.
-fn with_table(s: State, table: &[u8]) -> State
-    requires { length table.now ≡ 256 }
-    ensures { result ≡ take 65 s ++ table.now }
-{
-    let mut tabled = s;
-    byte_copy::copy(table, &mut tabled[TABLE..]);
-    tabled
+// What a start names beside the key table: its options and its version byte. With the mouse lock (options bit 0) the key switch keeps the mouse from the
+// host as well. AT mode (bit 1) has no mouse and no lock code. The second command set (bit 2) is the VT82C42's; its firmware can ask for the version byte.
+#[derive(Clone, Copy)]
+pub struct Setup {
+    pub options: u8,
+    pub version: u8,
 }
 
-// A controller after power-on: the settings that a byte of options names, a version byte, a key table. With the mouse lock (bit 0) the key switch
-// keeps the mouse from the host as well. AT mode (bit 1) has no mouse and no lock code. The second command set (bit 2) is the VT82C42's; its firmware
-// can ask for the version byte.
-fn started(options: u8, version: u8, table: &[u8]) -> State
+// A controller after power-on.
+fn started(setup: Setup, table: &[u8]) -> State
     requires { length table.now ≡ 256 }
-    ensures { let x = settings_of options version table.now in (result ≡ state_of (fresh x)) × (view result ≡ fresh x) }
+    ensures { let x = settings_of setup.options setup.version table.now in (result ≡ state_of (fresh x)) × (view result ≡ fresh x) }
 {
     let mut s = [0u8; 321];
     s[PINS] = 0xFF;
     s[LATCHES] = 3;
     s[MODE] = 0x70;
     s[OPTIONS] = nibble(
-        options / 1 % 2 == 1,
-        options / 2 % 2 == 1,
-        options / 4 % 2 == 1,
+        setup.options / 1 % 2 == 1,
+        setup.options / 2 % 2 == 1,
+        setup.options / 4 % 2 == 1,
         false,
     );
     s[INPUT_LATCHES] = 0x3F;
     s[HIGH_LATCHES] = 3;
-    s[VERSION] = version;
-    with_table(s, table)
+    s[VERSION] = setup.version;
+    s[TABLE..].copy_from_slice(table);
+    s
 }
 
-// A controller after power-on, with the built-in key table.
-pub fn start(options: u8, version: u8) -> State
-    ensures { Started (settings_of options version built_in) result }
+// A controller after power-on, with the built-in key table. It cannot fail, since that table needs no check.
+pub fn start(setup: Setup) -> State
+    ensures { Started (settings_of setup.options setup.version built_in) result }
 {
-    let table = built_in();
-    started(options, version, &table)
+    started(setup, &built_in())
 }
 
-// The same with a key table of the caller's: 0, or the number that refuses the table with the state as it was.
-pub fn start_with_table(s: &mut State, options: u8, version: u8, table: &[u8]) -> u8
-    ensures { TableStarted options version table.now s.old result s.new }
+// The same with a key table of the caller's; refused, the state is as it was.
+pub fn start_with_table(s: &mut State, setup: Setup, table: &[u8]) -> Result<(), Refusal>
+    ensures { TableStarted setup.options setup.version table.now s.old (outcome result) s.new }
 {
-    let refusal = table_refusal(table);
-    if refusal != 0 {
-        return refusal;
-    }
-    *s = started(options, version, table);
-    0
+    check_table(table)?;
+    *s = started(setup, table);
+    Ok(())
 }

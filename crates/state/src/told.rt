@@ -1,23 +1,10 @@
-// What an event tells besides the lines.
-ghost use Rattle.std.specs.Prelude.{◌≡◌};
+// What an accepted event tells besides the lines. Such an event is its checks, its deed and this, in the crate of its port or device: a function that
+// took both as closures would be no shorter.
 
-// The number of the check that refuses the event (0 none), the byte read, 1 if that byte was old, and the mask of lines pulsed.
-#[derive(Clone, Copy)]
+// The byte read, whether it was old, and the mask of lines pulsed. An event that reads and pulses nothing tells the default.
+#[derive(Clone, Copy, Default)]
 pub struct Told {
-    pub refusal: u8,
     pub read: u8,
-    pub old: u8,
+    pub old: bool,
     pub pulse: u8,
-}
-
-// An event that reads and pulses nothing, refused or not.
-pub fn quiet(number: u8) -> Told
-    ensures { (result.refusal ≡ number) × (result.read ≡ 0) × (result.old ≡ 0) × (result.pulse ≡ 0) }
-{
-    Told {
-        refusal: number,
-        read: 0,
-        old: 0,
-        pulse: 0,
-    }
 }

@@ -5,7 +5,8 @@ ghost use Rattle.trackball.specs.Packets as packets;
 ghost use Rattle.trackball.specs.View.{view, bytes_in};
 
 use crate::counters::split;
-use crate::trackball::{Trackball, without_movement};
+use crate::trackball::Trackball;
+use translation::bits::upper;
 
 // The three bytes of a packet.
 #[derive(Clone, Copy)]
@@ -15,7 +16,8 @@ pub(crate) struct Packet {
     pub y: u8,
 }
 
-// The bytes that a call hands out: four at most.
+// The bytes that a call hands out: four at most. The variant says how many; an array would need a count beside it, and a vector of fixed
+// capacity a push that may fail.
 #[derive(Clone, Copy)]
 pub enum Bytes {
     Nothing,
@@ -36,49 +38,46 @@ pub struct Reply {
 fn head(buttons: u8, xsign: bool, ysign: bool, xover: bool, yover: bool) -> u8
     ensures { result ≡ buttons % 8 + 8 + 16 * nibble xsign ysign xover yover }
 {
-    buttons % 8
-        + 8
-        + 16 * (xsign as u8)
-        + 32 * (ysign as u8)
-        + 64 * (xover as u8)
-        + 128 * (yover as u8)
+    buttons % 8 + 8 + upper(xsign, ysign, xover, yover)
 }
 
-// The low bytes follow the first, x before y.
-pub(crate) fn packet_of(t: Trackball) -> Packet
-    ensures { (result.head ∷ result.x ∷ result.y ∷ []) ≡ packets.packet (view t) }
-{
-    let along_x = t.x;
-    let along_y = t.y;
-    let x = split(along_x.sum);
-    let y = split(along_y.sum);
-    Packet {
-        head: head(
-            t.buttons,
-            x.negative,
-            y.negative,
-            along_x.overflow,
-            along_y.overflow,
-        ),
-        x: x.low,
-        y: y.low,
-    }
-}
-
-// While reporting is enabled a packet, after which there is no movement; else nothing, and the sums stay.
-pub fn report(t: Trackball) -> Reply
-    ensures { (view result.trackball ≡ packets.reported (view t)) × (bytes_in result.bytes ≡ packets.report_bytes (view t)) }
-{
-    if t.reporting {
-        let p = packet_of(t);
-        Reply {
-            trackball: without_movement(t),
-            bytes: Bytes::Three(p.head, p.x, p.y),
+impl Trackball {
+    // The low bytes follow the first, x before y.
+    #[tactic(auto, unfolding(crate::specs::Packets::packet))]
+    pub(crate) fn packet(self) -> Packet
+        ensures { (result.head ∷ result.x ∷ result.y ∷ []) ≡ packets.packet (view self) }
+    {
+        let x = split(self.x.sum);
+        let y = split(self.y.sum);
+        Packet {
+            head: head(
+                self.buttons,
+                x.negative,
+                y.negative,
+                self.x.overflow,
+                self.y.overflow,
+            ),
+            x: x.low,
+            y: y.low,
         }
-    } else {
-        Reply {
-            trackball: t,
-            bytes: Bytes::Nothing,
+    }
+
+    // While reporting is enabled a packet, after which there is no movement; else nothing, and the sums stay.
+    #[tactic(auto, unfolding(crate::specs::Packets::reported, crate::specs::Packets::report_bytes))]
+    pub fn report(self) -> Reply
+        ensures { (view result.trackball ≡ packets.reported (view self)) × (bytes_in result.bytes ≡ packets.report_bytes (view self)) }
+    {
+        if self.reporting {
+            let p = self.packet();
+            Reply {
+                trackball: self.without_movement(),
+                bytes: Bytes::Three(p.head, p.x, p.y),
+            }
+        } else {
+            Reply {
+                trackball: self,
+                bytes: Bytes::Nothing,
+            }
         }
     }
 }

@@ -3,7 +3,7 @@ ghost use Rattle.std.specs.Prelude.{◌≡◌};
 ghost use Rattle.trackball.specs.Trackball as ball;
 ghost use Rattle.trackball.specs.View.{view};
 
-use crate::counters::{Axis, stepped, still};
+use crate::counters::Axis;
 
 // The buttons are bits 0-2; a packet has no other bit of them.
 #[derive(Clone, Copy)]
@@ -14,53 +14,48 @@ pub struct Trackball {
     pub reporting: bool,
 }
 
-// After power-on: reporting disabled, no movement, no button down.
-pub fn fresh() -> Trackball
-    ensures { view result ≡ ball.fresh }
-{
-    Trackball {
-        x: still(),
-        y: still(),
-        buttons: 0,
-        reporting: false,
+// After power-on: reporting disabled, no movement, no button down. It isn't derived, so that its contract names the definition.
+impl Default for Trackball {
+    ghost is_default = { λ t. view t ≡ ball.fresh };
+
+    fn default() -> Trackball {
+        Trackball {
+            x: Axis::default(),
+            y: Axis::default(),
+            buttons: 0,
+            reporting: false,
+        }
     }
 }
 
-// Buttons and steps of a move, which count whether it reports or not.
-pub fn moved(t: Trackball, buttons: u8, x: i16, y: i16) -> Trackball
-    ensures { view result ≡ ball.moved buttons x y (view t) }
-{
-    let along_x = t.x;
-    let along_y = t.y;
-    Trackball {
-        x: stepped(along_x, x),
-        y: stepped(along_y, y),
-        buttons: buttons % 8,
-        reporting: t.reporting,
+impl Trackball {
+    // Buttons and steps of a move, which count whether it reports or not.
+    #[tactic(auto, unfolding(crate::specs::Trackball::moved))]
+    pub fn moved(self, buttons: u8, x: i16, y: i16) -> Trackball
+        ensures { view result ≡ ball.moved buttons x y (view self) }
+    {
+        Trackball {
+            x: self.x.stepped(x),
+            y: self.y.stepped(y),
+            buttons: buttons % 8,
+            ..self
+        }
     }
-}
 
-pub(crate) fn with_reporting(t: Trackball, reporting: bool) -> Trackball
-    ensures { view result ≡ ball.with_reporting reporting (view t) }
-{
-    let along_x = t.x;
-    let along_y = t.y;
-    Trackball {
-        x: along_x,
-        y: along_y,
-        buttons: t.buttons,
-        reporting,
+    pub(crate) fn with_reporting(self, reporting: bool) -> Trackball
+        ensures { view result ≡ ball.with_reporting reporting (view self) }
+    {
+        Trackball { reporting, ..self }
     }
-}
 
-// No movement; the buttons stay.
-pub(crate) fn without_movement(t: Trackball) -> Trackball
-    ensures { view result ≡ ball.without_movement (view t) }
-{
-    Trackball {
-        x: still(),
-        y: still(),
-        buttons: t.buttons,
-        reporting: t.reporting,
+    // No movement; the buttons stay.
+    pub(crate) fn without_movement(self) -> Trackball
+        ensures { view result ≡ ball.without_movement (view self) }
+    {
+        Trackball {
+            x: Axis::default(),
+            y: Axis::default(),
+            ..self
+        }
     }
 }

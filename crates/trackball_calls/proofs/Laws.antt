@@ -1,3 +1,2 @@
 -- Laws of the definitions, in files of the same names.
 pub mod Stored
-pub mod Promises

@@ -1,5 +1,5 @@
 // Bytes handed out as the frames that a mouse sends.
-ghost use Rattle.std.specs.Prelude.{◌≡◌, length};
+ghost use Rattle.std.specs.Prelude.{◌≡◌, ◌≤◌, length};
 ghost use Rattle.trackball.specs.View.{bytes_in};
 ghost use Rattle.trackball_calls.specs.Promises.{framed};
 
@@ -9,39 +9,27 @@ use translation::frames::frame_of;
 // Room for the frames of any one call.
 pub type Places = [u16; 4];
 
-// Tells the proofs the length that the type has. It compiles to nothing.
-fn sized(places: Places)
-    ensures { length places ≡ 4 }
-{}
+// Bytes as frames at the front of the places, and how many they are. The places past them stay. Of an array that `iter_mut` lends beside the bytes,
+// the library does not say what it holds in the end, so the place of each frame is counted.
+fn put(bytes: &[u8], places: &mut Places) -> usize
+    requires { length bytes.now ≤ 4 }
+    ensures { (result ≡ length bytes.now) × (places.new ≡ framed bytes.now places.old) }
+{
+    for (i, byte) in bytes.iter().enumerate() {
+        places[i] = frame_of(*byte);
+    }
+    bytes.len()
+}
 
-// The bytes as frames at the front of the places, and how many they are. The places past them stay.
+// What a call hands out, put there.
 pub(crate) fn lay(bytes: Bytes, places: &mut Places) -> usize
     ensures { (result ≡ length (bytes_in bytes)) × (places.new ≡ framed (bytes_in bytes) places.old) }
 {
-    sized(*places);
     match bytes {
-        Bytes::Nothing => 0,
-        Bytes::One(a) => {
-            places[0] = frame_of(a);
-            1
-        }
-        Bytes::Two(a, b) => {
-            places[0] = frame_of(a);
-            places[1] = frame_of(b);
-            2
-        }
-        Bytes::Three(a, b, c) => {
-            places[0] = frame_of(a);
-            places[1] = frame_of(b);
-            places[2] = frame_of(c);
-            3
-        }
-        Bytes::Four(a, b, c, d) => {
-            places[0] = frame_of(a);
-            places[1] = frame_of(b);
-            places[2] = frame_of(c);
-            places[3] = frame_of(d);
-            4
-        }
+        Bytes::Nothing => put(&[], places),
+        Bytes::One(a) => put(&[a], places),
+        Bytes::Two(a, b) => put(&[a, b], places),
+        Bytes::Three(a, b, c) => put(&[a, b, c], places),
+        Bytes::Four(a, b, c, d) => put(&[a, b, c, d], places),
     }
 }

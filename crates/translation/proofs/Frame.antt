@@ -74,12 +74,6 @@ check-one f =
     (λ o. let odd : ones f % 2 ≡ 1 = eqb-true _ _ o in inl (check_odd f framed odd, framed, odd))
     (λ o. let even : ones f % 2 ≡ 0 = omega (arith, eqb-false (ones f % 2) 1 o) in inr (inl (check_even f framed even, framed, even)))
 
--- what is neither framed nor noise
-pub check_unframed : (f : ℕ) → (Framed f → ⊥) → (FalseStart f → ⊥) → check f ≡ broken
-check_unframed f unframed started =
-    ⊎_elim (λ s. absurd (unframed s.1)) (⊎_elim (λ p. absurd (unframed p.1)) (⊎_elim (λ b. b.0) (λ n. absurd (started n.1))))
-    (check-one f)
-
 -- frame
 
 pub frame_below : (b : ℕ) → b < 256 → frame b < 2048

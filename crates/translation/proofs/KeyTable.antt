@@ -1,8 +1,8 @@
 -- What is true of key tables: a table that passes the test is a permutation, and the built-in one passes every check.
 -- Assumes nothing.
 use Prim.Native.Nat.{ℕ, zero, suc, ◌+◌, ◌-◌, ◌<◌, ◌≤◌, suc-le-suc}
-use mathlib.Core.Path.{◌≡◌, refl, ap, ◌∙◌, sym}
-use mathlib.Core.Bool.{true, false}
+use mathlib.Core.Path.{◌≡◌, refl, ap, ap₂, ◌∙◌, sym}
+use mathlib.Core.Bool.{Bool, true, false, ◌&&◌}
 use mathlib.Core.List.{List, [], ◌∷◌}
 use mathlib.Core.Logic.{◌⊎◌, inl, inr, ⊎_elim}
 use native.Mathlib.Nat.{not-suc-le-zero, le_of_suc-le-suc}
@@ -11,6 +11,8 @@ use lib.ListN.{length, get_or, take, drop, set, replicate, length-take, length-s
 use lib.Seq.{get_or-take, get_or-drop, get_or-set_same, get_or-set_other}
 use lib.Dec.{eqb, ltb}
 use borrow.Author.Tests.{eq-eqb, ne_eqb, eqb-true, eqb-false, ltb-true, ltb-false}
+use Rattle.std.specs.List.{list_all}
+use Rattle.std.proofs.Math.Numerals.{add-one}
 use Rattle.translation.specs.KeyTable.{rows, built_in, numbers_from, occurrences, each_once, permutes, Permutation, fixed, table_refusal}
 use Rattle.translation.proofs.Tests.{split, and_true, every_below}
 
@@ -203,8 +205,8 @@ pub tallied_none : (xs : List ℕ) → Tallied xs 0 (replicate 256 0)
 tallied_none xs = record { size = length-replicate {A = ℕ} 256 0; times = λ v h. get_or-replicate {A = ℕ} 256 v 0 0 h }
 
 module _ {xs seen : List ℕ} {k : ℕ} (t : Tallied xs k seen) where
-  pub tallied_next : {x : ℕ} → k < length xs → x ≡ get_or xs k 0 → x < 256 → Tallied xs (suc k) (set seen x (get_or seen x 0 + 1))
-  tallied_next {x} h at small = record { size = length-set seen x _ ∙ t.size; times = each }
+  pub tallied_next : {x : ℕ} → k < length xs → x ≡ get_or xs k 0 → x < 256 → Tallied xs (k + 1) (set seen x (get_or seen x 0 + 1))
+  tallied_next {x} h at small = rw (add-one k) (record { size = length-set seen x _ ∙ t.size; times = each })
     where
       each : (v : ℕ) → v < 256 → get_or (set seen x (get_or seen x 0 + 1)) v 0 ≡ occurrences v (take (suc k) xs)
       each v below =
@@ -221,13 +223,12 @@ module _ {xs seen : List ℕ} {k : ℕ} (t : Tallied xs k seen) where
   pub tallied_most : {v : ℕ} → v < 256 → get_or seen v 0 ≤ k
   tallied_most {v} below = omega (arith, t.times v below, occurrences_le v (take k xs), length-take k xs)
 
--- each_once from v on
-
-pub once_on : (v n : ℕ) (xs : List ℕ) → occurrences v xs ≡ 1 → each_once (numbers_from v (suc n)) xs ≡ each_once (numbers_from (suc v) n) xs
-once_on v n xs e = simp (eq-eqb (occurrences v xs) 1 e)
-
-pub once_not : (v n : ℕ) (xs : List ℕ) → (occurrences v xs ≡ 1 → ⊥) → each_once (numbers_from v (suc n)) xs ≡ false
-once_not v n xs e = simp (ne_eqb (occurrences v xs) 1 e)
+-- each_once, of the counts from i on
+pub each_once-counted : (i : ℕ) (times xs : List ℕ) → ((k : ℕ) → k < length times → get_or times k 0 ≡ occurrences (i + k) xs) → list_all (λ n. eqb n 1) times ≡ each_once (numbers_from i (length times)) xs
+each_once-counted i [] xs counted = refl
+each_once-counted i (n ∷ times) xs counted =
+    ap₂ (λ (s t : Bool). s && t) (ap (λ (m : ℕ). eqb m 1) (counted 0 (omega arith) ∙ ap (λ (v : ℕ). occurrences v xs) (omega arith)))
+    (each_once-counted (suc i) times xs (λ k h. counted (suc k) (omega arith) ∙ ap (λ (v : ℕ). occurrences v xs) (omega arith)))
 
 -- the cases of table_refusal
 

@@ -1,30 +1,20 @@
 -- What is true of translation: its cases, and that a byte stays a byte. Assumes nothing.
 use Prim.Native.Nat.{ℕ, ◌<◌}
-use mathlib.Core.Path.{◌≡◌, refl}
+use mathlib.Core.Path.{◌≡◌}
 use mathlib.Core.Bool.{Bool, true, false}
 use mathlib.Core.List.{List}
 use native.Mathlib.Omega.{arith}
 use lib.ListN.{get_or}
 use lib.Dec.{eqb}
 use borrow.Author.Tests.{ne_eqb}
-use Rattle.translation.specs.ScanCodes.{nothing, byte, code, translate, raw}
+use Rattle.translation.specs.ScanCodes.{byte, code, translate}
 use Rattle.translation.proofs.Tests.{split}
 
 -- translate
 
-pub translate_prefix : (t : List ℕ) (k : Bool) → translate t 0xF0 k ≡ record { yields = nothing; breaks = true }
-unfolding translate
-translate_prefix t k = refl
-
 pub translate-other : (t : List ℕ) (b : ℕ) (k : Bool) → (b ≡ 0xF0 → ⊥) → translate t b k ≡ record { yields = byte (code (get_or t b 0) k); breaks = false }
 unfolding translate
 translate-other t b k other = simp (ne_eqb _ _ other)
-
--- raw
-
-pub raw_is : (b : ℕ) → raw b ≡ record { yields = byte b; breaks = false }
-unfolding raw
-raw_is b = refl
 
 -- A byte stays a byte: of a code, and by any table of bytes.
 

@@ -1,7 +1,5 @@
 -- "Frames and scan codes", translation of scan code set 2 to set 1.
-use Rattle.std.specs.Prelude.{ℕ, ◌+◌, ◌%◌, Bool, true, false, cond, List, get_or, eqb}
-use Rattle.translation.specs.declared.scan_codes.Yield.{Yield}
-use Rattle.translation.specs.declared.scan_codes.Yield.TheVariants as variant
+use Rattle.std.specs.Prelude.{ℕ, ◌+◌, ◌%◌, Bool, true, false, cond, List, Option, None, Some, get_or, eqb}
 use Rattle.translation.specs.declared.scan_codes.Translated.{Translated}
 
 -- What translating a byte yields, nothing or a byte, and the break flag after it.
@@ -29,9 +27,9 @@ unfoldable pub raw : ℕ → Translation
 raw b = record { yields = byte b; breaks = false }
 
 -- The program's answer, as the translation that it stands for.
-abbrev pub yielded : Yield → Yielded
-yielded variant.Nothing = nothing
-yielded (variant.Byte b) = byte b
+abbrev pub yielded : Option ℕ → Yielded
+yielded None = nothing
+yielded (Some b) = byte b
 
 abbrev pub translation : Translated → Translation
 translation t = record { yields = yielded t.yields; breaks = t.breaks }

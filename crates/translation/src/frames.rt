@@ -3,7 +3,8 @@
 ghost use Rattle.std.specs.Prelude.{◌≡◌, ◌*◌, ◌%◌, ◌<◌};
 ghost use Rattle.translation.specs.Frames.{check, frame, verdict, ones};
 
-// What the frame check finds: a sound frame with its byte, a wrong parity bit, a wrong stop bit, or a wrong start bit.
+// What the frame check finds: a sound frame with its byte, a wrong parity bit, a wrong stop bit, or a wrong start bit. It isn't a Result:
+// noise, a wrong start bit, is neither a byte nor an error that the host sees.
 #[derive(Clone, Copy)]
 pub enum Verdict {
     Sound(u8),
@@ -24,6 +25,7 @@ fn parity_of(f: u16) -> u16
 
 // Start bit, stop bit, parity, in this order. A number above 2047 is no frame, and is broken, odd or even; an even one fails with those
 // that have no stop bit, since in a frame nothing stands above that bit.
+#[tactic(auto, unfolding(crate::specs::Frames::check))]
 pub fn judge(f: u16) -> Verdict
     ensures { verdict result ≡ check f }
 {

@@ -2,8 +2,12 @@
 ghost use Rattle.std.specs.Prelude.{◌≡◌, List, ℕ, ◌≤◌, ◌<◌, length, get_or};
 ghost use Rattle.translation.specs.KeyTable as key;
 ghost use Rattle.translation.specs.KeyTable.{built_in, table_refusal};
+ghost use Rattle.refusals.specs.Numbers.{outcome};
 
-// The built-in table, an entry for each byte; a comment names the byte that a row starts at.
+use refusals::refusal::Refusal;
+
+// The built-in table, an entry for each byte, looked up by it, as document 01 asks; a comment names the byte that a row starts at. A state's own table is
+// bytes of the state, which `lines` looks up.
 const BUILT_IN: [u8; 256] = [
     // 00h
     0xFF, 0x43, 0x41, 0x3F, 0x3D, 0x3B, 0x3C, 0x58, 0x64, 0x44, 0x42, 0x40, 0x3E, 0x0F, 0x29, 0x59,
@@ -44,15 +48,6 @@ const BUILT_IN: [u8; 256] = [
 // An entry for each byte.
 pub type Table = [u8; 256];
 
-// How many entries a table has, and the checks that refuse one.
-const ENTRIES: usize = 256;
-
-const BAD_LENGTH: u8 = 13;
-
-const BAD_KEYS: u8 = 14;
-
-const BAD_FIXED: u8 = 15;
-
 pub fn built_in() -> Table
     ensures { result ≡ built_in }
 {
@@ -63,21 +58,16 @@ pub fn built_in() -> Table
 pub fn built_in_entry(byte: u8) -> u8
     ensures { result ≡ get_or built_in byte 0 }
 {
-    let table = built_in();
-    table[byte as usize]
+    built_in()[byte as usize]
 }
 
 // How often each byte stands among the entries 01h-7Fh.
-fn tally(table: &[u8]) -> [u8; 256]
-    requires { 128 ≤ length table.now }
+fn tally(table: &Table) -> [u8; 256]
     ensures { (v : ℕ) → v < 256 → get_or result v 0 ≡ key.occurrences v (key.keys table.now) }
 {
     let mut seen = [0u8; 256];
-    let mut i = 1;
-    while i < 0x80 {
-        let v = table[i] as usize;
-        seen[v] += 1;
-        i += 1;
+    for key in &table[1..0x80] {
+        seen[*key as usize] += 1;
     }
     seen
 }
@@ -86,46 +76,40 @@ fn tally(table: &[u8]) -> [u8; 256]
 fn all_once(seen: [u8; 256]) -> bool
     ensures { (xs : List ℕ) → ((v : ℕ) → v < 256 → get_or seen v 0 ≡ key.occurrences v xs) → result ≡ key.each_once (key.numbers_from 1 0x7F) xs }
 {
-    let mut v = 1;
-    while v < 0x80 {
-        if seen[v] != 1 {
-            return false;
-        }
-        v += 1;
-    }
-    true
+    seen[1..0x80].iter().all(|times| *times == 1)
 }
 
 // The entries 01h-7Fh hold each of 01h-7Fh once: each is looked at once, and every value that was seen is counted.
-fn permutes(table: &[u8]) -> bool
-    requires { 128 ≤ length table.now }
+#[tactic(auto, unfolding(crate::specs::KeyTable::permutes))]
+fn permutes(table: &Table) -> bool
     ensures { result ≡ key.permutes table.now }
 {
     all_once(tally(table))
 }
 
+// The bytes that give themselves in every table.
+const OWN: [u8; 6] = [0xE0, 0xE1, 0xEE, 0xF0, 0xFA, 0xFE];
+
 // The entries that every table has.
-fn fixed(table: &[u8]) -> bool
-    requires { 255 ≤ length table.now }
+fn fixed(table: &Table) -> bool
     ensures { result ≡ key.fixed table.now }
 {
-    (table[0x00] == 0xFF)
-        & ((table[0xE0] == 0xE0)
-            & ((table[0xE1] == 0xE1)
-                & ((table[0xEE] == 0xEE)
-                    & ((table[0xF0] == 0xF0) & ((table[0xFA] == 0xFA) & (table[0xFE] == 0xFE))))))
+    table[0x00] == 0xFF && OWN.iter().all(|byte| table[*byte as usize] == *byte)
 }
 
-// The check that refuses a table, 0 for none.
-pub fn table_refusal(table: &[u8]) -> u8
-    ensures { result ≡ table_refusal table.now }
+// The checks of a table: its length, the keys, and the entries that every table has.
+#[tactic(auto, unfolding(crate::specs::KeyTable::table_refusal))]
+pub fn check_table(table: &[u8]) -> Result<(), Refusal>
+    ensures { outcome result ≡ table_refusal table.now }
 {
-    if table.len() != ENTRIES {
-        return BAD_LENGTH;
+    let Ok(table) = <&Table>::try_from(table) else {
+        return Err(Refusal::TableLength);
+    };
+    if !permutes(table) {
+        return Err(Refusal::TableKeys);
     }
-    if permutes(table) {
-        if fixed(table) { 0 } else { BAD_FIXED }
-    } else {
-        BAD_KEYS
+    if !fixed(table) {
+        return Err(Refusal::TableFixed);
     }
+    Ok(())
 }

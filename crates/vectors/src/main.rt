@@ -2,11 +2,15 @@
 // and images at their edges.
 #![tactic(auto)]
 
+mod answers;
+mod bodies;
 mod cases;
 mod frames;
 mod images;
 mod lists;
+mod moves;
 mod print;
+mod sample;
 mod text;
 
 use cases::READ_MOST;

@@ -1,27 +1,19 @@
-// Writing what the program prints.
-use std::io;
-use std::io::Write;
+// Bytes as the program prints them.
+use std::fmt;
 
-pub fn put<W: Write>(out: &mut W, text: &[u8]) -> io::Result<()> {
-    out.write_all(text)
-}
+// In hexadecimal, two digits each, with a space between two bytes.
+#[derive(Clone, Copy)]
+pub struct Hex<'a>(pub &'a [u8]);
 
-// The hexadecimal digit of the low four bits.
-pub fn digit(n: u8) -> u8 {
-    let low = n % 16;
-    if low < 10 {
-        b'0' + low
-    } else {
-        b'A' + (low - 10)
+impl fmt::Display for Hex<'_> {
+    fn fmt<W: fmt::Write>(&self, f: &mut fmt::Formatter<W>) -> fmt::Result {
+        let Some((first, others)) = self.0.split_first() else {
+            return Ok(());
+        };
+        write!(f, "{first:02X}")?;
+        for byte in others {
+            write!(f, " {byte:02X}")?;
+        }
+        Ok(())
     }
-}
-
-// A byte in two digits, and what ends it.
-pub fn put_byte<W: Write>(out: &mut W, byte: u8, end: u8) -> io::Result<()> {
-    put(out, &[digit(byte / 16), digit(byte), end])
-}
-
-// A number in decimal behind a space.
-pub fn put_number<W: Write>(out: &mut W, n: u64) -> io::Result<()> {
-    write!(out, " {n}")
 }

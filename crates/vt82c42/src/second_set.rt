@@ -1,4 +1,5 @@
-// The second command set, the VT82C42's: what its own commands do.
+// The second command set, the VT82C42's: what its own commands do. A command byte names its line by its own low bits, so a line is a number or its bit
+// here, and each command is matched as it is: an enum of the eight lines would be read from that number and looked at once.
 ghost use Rattle.std.specs.Prelude.{cond, ◌%◌, leb};
 ghost use Rattle.machine.specs.State.{lift};
 ghost use Rattle.machine.specs.Lines.{second_set};
@@ -7,14 +8,13 @@ ghost use Rattle.machine.specs.SecondSet as second;
 ghost use Rattle.state.specs.Changed.{Changed, KeptChange};
 
 use lines::lines::{at_mode, put, second_set};
-use state::bits::{nibble, weight, within};
-use state::state::{HIGH_LATCHES, INPUT_LATCHES, LATCHES, OPTIONS, State, VERSION, sized};
+use state::state::{HIGH_LATCHES, INPUT_LATCHES, LATCHES, OPTIONS, State, VERSION};
+use translation::bits::{nibble, weight, within};
 
 // The latches of P10-P15.
 fn latch_inputs(s: &mut State, n: u8)
     ensures { Changed (lift (second.input_latched n)) s.old s.new }
 {
-    sized(*s);
     s[INPUT_LATCHES] = n;
 }
 
@@ -38,21 +38,12 @@ fn latch_input(s: &mut State, w: u8, on: bool)
     }
 }
 
-// One latch written, the other two of its byte as they were.
-fn latch_p22(s: &mut State, on: bool)
-    ensures { Changed (lift (λ p. port.high_latched on p.ports.p23 p.ports.p25 p)) s.old s.new }
+// P22 and P23 written, P25 as it was.
+fn latch_high(s: &mut State, p22: bool, p23: bool)
+    ensures { Changed (lift (λ p. port.high_latched p22 p23 p.ports.p25 p)) s.old s.new }
 {
-    sized(*s);
     let old = s[HIGH_LATCHES];
-    s[HIGH_LATCHES] = nibble(on, old / 2 % 2 == 1, false, old / 8 % 2 == 1);
-}
-
-fn latch_p23(s: &mut State, on: bool)
-    ensures { Changed (lift (λ p. port.high_latched p.ports.p22 on p.ports.p25 p)) s.old s.new }
-{
-    sized(*s);
-    let old = s[HIGH_LATCHES];
-    s[HIGH_LATCHES] = nibble(old / 1 % 2 == 1, on, false, old / 8 % 2 == 1);
+    s[HIGH_LATCHES] = nibble(p22, p23, false, old / 8 % 2 == 1);
 }
 
 // B0h-B7h write 0 and B8h-BFh 1 to P10-P13, P22, P23, P14, P15.
@@ -61,13 +52,14 @@ fn write_line(s: &mut State, c: u8)
 {
     let on = 0xB8 <= c;
     let line = c % 8;
+    let high = s[HIGH_LATCHES];
     match line {
         0 => latch_input(s, 1, on),
         1 => latch_input(s, 2, on),
         2 => latch_input(s, 4, on),
         3 => latch_input(s, 8, on),
-        4 => latch_p22(s, on),
-        5 => latch_p23(s, on),
+        4 => latch_high(s, on, high / 2 % 2 == 1),
+        5 => latch_high(s, high / 1 % 2 == 1, on),
         6 => latch_input(s, 16, on),
         _ => latch_input(s, 32, on),
     }
@@ -77,7 +69,6 @@ fn write_line(s: &mut State, c: u8)
 fn permit(s: &mut State, on: bool)
     ensures { Changed (lift (second.permitted on)) s.old s.new }
 {
-    sized(*s);
     let old = s[OPTIONS];
     s[OPTIONS] = nibble(old / 1 % 2 == 1, old / 2 % 2 == 1, old / 4 % 2 == 1, on);
 }
@@ -86,7 +77,6 @@ fn permit(s: &mut State, on: bool)
 fn set_output_lines(s: &mut State, c: u8)
     ensures { Changed (lift (second.output_lines_set c)) s.old s.new }
 {
-    sized(*s);
     let low = s[LATCHES];
     let high = s[HIGH_LATCHES];
     s[LATCHES] = nibble(low / 1 % 2 == 1, c / 2 % 2 == 1, false, false);
@@ -113,8 +103,7 @@ fn single_command(s: &mut State, c: u8)
     ensures { Changed (lift (second.single_command c)) s.old s.new }
 {
     match c {
-        0xA1 => put_version(s),
-        0xAF => put_version(s),
+        0xA1 | 0xAF => put_version(s),
         0xC8 => permit(s, true),
         0xC9 => permit(s, false),
         0xCA => report_mode(s),

@@ -1,56 +1,21 @@
 -- Laws of the definitions in specs/Rules and specs/Added. Assumes nothing.
-use mathlib.Core.Path.{◌≡◌, refl, ap, ◌∙◌}
-use mathlib.Core.Bool.{Bool, true, false, cond, not}
-use mathlib.Core.List.{List, [], ◌∷◌, ◌++◌}
-use Prim.Native.Nat.{ℕ, zero, suc, ◌+◌, ◌≤◌, ◌<◌}
+use mathlib.Core.Path.{◌≡◌, refl, ap}
+use mathlib.Core.Bool.{true, false, cond, not}
+use mathlib.Core.List.{List, ◌++◌}
+use Prim.Native.Nat.{ℕ, ◌≤◌, ◌<◌}
 use native.Mathlib.Omega.{arith}
-use native.Mathlib.Nat.{not-suc-le-zero}
-use native.Mathlib.Numerals.{add-one}
-use lib.ListN.{length, get_or, take, drop, replicate, drop_of_length-le}
+use lib.ListN.{length, take, drop}
 use lib.Dec.{eqb, leb, ltb}
+use Rattle.std.specs.List.{list_all}
 use borrow.Author.Tests.{lt-ltb, le-leb, eq-eqb, ne_eqb, ltb-true, leb-true, eqb-true, eqb-false, not-true}
-use lib.Seq.{drop-cons}
 use Rattle.translation.specs.Bits.{has}
 use Rattle.body_rules.specs.Body.{flags_byte, latches_byte, pending_byte, cell_byte, overlay_byte, nibble_byte, sent_to_byte, sent_byte}
 use Rattle.body_rules.specs.Body.{length_byte, position_byte, code_bytes, mode_byte, options_byte, input_latches_byte, high_latches_byte, time_out_byte}
 use Rattle.body_rules.specs.Added.{at_mode, second_set, high_allowed, unused_kept, first_set_kept, ps2_kept, second_set_kept, added_kept}
-use Rattle.body_rules.specs.Rules.{every, is_zero, nonzero}
+use Rattle.body_rules.specs.Rules.{is_zero, nonzero}
 use Rattle.body_rules.specs.Rules.{flags_kept, latches_kept, pending_kept, overlay_kept, sending_kept, code_kept, lock_kept, mode_kept, common_kept, body_kept}
 use Rattle.translation.proofs.Lists.{front}
-use Rattle.translation.proofs.Tests.{split, and_true, and_passed, and_failed, and_both, cond_shows, cond-passes}
-
--- ---- every
-pub every-at : (test : ℕ → Bool) (l : List ℕ) → every test l ≡ true → (k : ℕ) → k < length l → test (get_or l k 0) ≡ true
-unfolding every
-every-at test [] e k h = absurd (not-suc-le-zero h)
-every-at test (x ∷ l) e zero h = (and_true (test x) (every test l) e).0
-every-at test (x ∷ l) e (suc k) h = every-at test l (and_true (test x) (every test l) e).1 k (omega arith)
-
-pub every_all : (test : ℕ → Bool) (l : List ℕ) → ((k : ℕ) → k < length l → test (get_or l k 0) ≡ true) → every test l ≡ true
-unfolding every
-every_all test [] each = refl
-every_all test (x ∷ l) each =
-    and_both (test x) (every test l) (each zero (omega arith)) (every_all test l (λ k h. each (suc k) (omega arith)))
-
-pub every_zeros : (n : ℕ) → every is_zero (replicate n 0) ≡ true
-unfolding every
-every_zeros zero = refl
-every_zeros (suc n) = every_zeros n
-
--- ---- every, from byte i on
-module _ (test : ℕ → Bool) (l : List ℕ) (i : ℕ) where
-  pub every_end : length l ≤ i → every test (drop i l) ≡ true
-  unfolding every
-  every_end h = ap (every test) (drop_of_length-le l h)
-
-  pub every-passed : i < length l → test (get_or l i 0) ≡ true → every test (drop i l) ≡ every test (drop (i + 1) l)
-  unfolding every
-  every-passed h e =
-      ap (every test) (drop-cons l i 0 h) ∙ and_passed (test (get_or l i 0)) (every test (drop (suc i) l)) e ∙ rw add-one
-
-  pub every_failed : i < length l → test (get_or l i 0) ≡ false → every test (drop i l) ≡ false
-  unfolding every
-  every_failed h e = ap (every test) (drop-cons l i 0 h) ∙ and_failed (test (get_or l i 0)) (every test (drop (suc i) l)) e
+use Rattle.translation.proofs.Tests.{split, and_true, and_both, cond_shows, cond-passes}
 
 -- ---- common_kept
 -- the rules as facts
@@ -67,8 +32,8 @@ pub record CommonRules (b : List ℕ) : Type 0 where
   pub to : sent_to_byte b ≤ 2
   pub no_sent : sent_to_byte b ≡ 0 → sent_byte b ≡ 0
   pub count : length_byte b ≤ 16
-  pub code : every nonzero (take (length_byte b) (code_bytes b)) ≡ true
-  pub after : every is_zero (drop (length_byte b) (code_bytes b)) ≡ true
+  pub code : list_all nonzero (take (length_byte b) (code_bytes b)) ≡ true
+  pub after : list_all is_zero (drop (length_byte b) (code_bytes b)) ≡ true
   pub locked : has (flags_byte b) 6 ≡ true → (position_byte b < length_byte b) × (pending_byte b ≡ 0) × (sent_to_byte b ≡ 0)
   pub unlocked : has (flags_byte b) 6 ≡ false → position_byte b ≡ 0
   pub mode : mode_byte b < 128
@@ -93,7 +58,7 @@ module _ (b : List ℕ) where
       let to = and_true (leb (sent_to_byte b) 2) _ s5.0 in
       let sent = cond_shows (eqb (sent_to_byte b) 0) _ _ to.1 in
       let count = and_true (leb (length_byte b) 16) _ s6.0 in
-      let code = and_true (every nonzero (take (length_byte b) (code_bytes b))) _ count.1 in
+      let code = and_true (list_all nonzero (take (length_byte b) (code_bytes b))) _ count.1 in
       let lock = cond_shows (has (flags_byte b) 6) _ _ s7.0 in
       record {
         flags = ltb-true _ _ flags.0;

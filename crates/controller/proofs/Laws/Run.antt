@@ -1,28 +1,28 @@
 -- From single events to the run of a list, and to the promises of the calls. Assumes nothing.
-use Prim.Native.Nat.{ℕ, ◌+◌, ◌*◌, ◌-◌, ◌≤◌, ◌<◌}
-use mathlib.Core.Path.{◌≡◌, refl, ap, ap₂, sym, subst, ◌∙◌}
+use Prim.Native.Nat.{ℕ, ◌+◌, ◌*◌, ◌-◌, ◌≤◌, ◌<◌, min}
+use mathlib.Core.Path.{◌≡◌, ap, ap₂, sym, subst, ◌∙◌}
 use mathlib.Core.List.{List, [], ◌++◌, append_assoc, append-nil}
-use mathlib.Core.Bool.{true, false, ◌&&◌, ◌||◌, true≢false}
+use mathlib.Core.Bool.{true, false, ◌&&◌}
 use native.Mathlib.Omega.{arith}
-use lib.Dec.{leb, ltb, eqb}
-use borrow.Author.Tests.{leb-true, leb-false, ltb-true, ltb-false, eqb-true, eq-eqb}
+use lib.Dec.{leb, ltb}
+use borrow.Author.Tests.{leb-true, leb-false, ltb-true, ltb-false}
 use Rattle.translation.proofs.Tests.{split, and_true}
-use lib.ListN.{length, set, take, drop, length-set, length-drop, length-append, length-take, drop_of_length-le, take-append-drop}
+use lib.ListN.{length, take, drop, length-drop, length-append, length-take, take-append-drop}
 use lib.Seq.{take_at, drop_at, drop-drop, take-append-add}
 use Rattle.machine.specs.Settings.{Settings}
 use Rattle.machine.specs.State.{Machine, fresh}
-use Rattle.machine.specs.Events.{Event, step, answer, standing}
+use Rattle.machine.specs.Events.{Event, step, answer}
 use Rattle.machine.specs.Run.{events, first, after, answers, filled, fitting, list_refusal}
 use Rattle.machine.specs.Kept.{Kept}
-use Rattle.state.specs.View.{view, public, state_of}
+use Rattle.state.specs.View.{view, state_of}
+use Rattle.std.proofs.lemmas.List.{nil_from_length}
 use Rattle.state.specs.Changed.{Changed}
 use Rattle.state.proofs.Laws.Changed.{chain, by_rule, untouched}
 use Rattle.translation.proofs.Lists.{take_rest, handed, handed_back}
 use Rattle.machine.proofs.Laws.Run.{length-answer, length-answers, after_kept, after-append, filled_none, filled_more, filled-append}
 use Rattle.machine.proofs.Laws.Run.{fitting_short, fitting_tight, fitting_more, fitting_all, length_piece, fitting_piece, fitting-split, fitting_cut}
-use Rattle.controller.specs.Promises.{EventAnswered, FittingRun, ListRun, FreshRun}
-use Rattle.controller.specs.Steps.{EventWritten, piece_end, lines_laid}
-use Rattle.controller.proofs.Laws.Events.{nine_laid}
+use Rattle.controller.specs.Promises.{FittingRun, ListRun, FreshRun}
+use Rattle.controller.specs.Steps.{EventWritten}
 
 -- ---- FittingRun: a change by the events that fit, and the buffer
 fitting-run : {s s' list space space' : List ℕ} → Changed (λ m. after m (fitting list space)) s s' → space' ≡ filled (view s) (fitting list space) space →
@@ -126,18 +126,6 @@ run_pieces n {s} {t} {r} {list} {space} {mid} {ys} some room one more =
     ∙ sym (filled-append m es fs space) ∙ ap (λ (gs : List Event). filled m gs space) (sym all))
 
 -- ---- ListRun
-pub list_refused : {s list space : List ℕ} {n : ℕ} → n ≡ list_refusal list space → (n ≡ 0 → ⊥) → ListRun s list space n s space
-list_refused {list = list} {space = space} number some =
-    let stands : list_refusal list space ≡ 0 → ⊥ = λ a. some (number ∙ a) in
-    record {
-      refusal = number;
-      refused = λ _. (refl, refl);
-      machine = λ a. absurd (stands a);
-      bytes = λ a. absurd (stands a);
-      buffer = λ a. absurd (stands a);
-      kept = λ k. k;
-    }
-
 pub list_run : {s list space s' space' : List ℕ} {n : ℕ} → n ≡ list_refusal list space → n ≡ 0 → FittingRun s list space s' space' →
     ListRun s list space 0 s' space'
 list_run {s} {list} {space} number none run =
@@ -163,125 +151,104 @@ fresh-run {x} {s} {list} {space} start run =
     }
 
 -- ---- a list in pieces of 500 events
--- The run so far, of `done` bytes of the list with `told` bytes of answers: whatever the run of the rest makes of the buffer behind them, it
--- makes the run of the whole.
-pub record Pieced (s₀ list space₀ s space : List ℕ) (done told : ℕ) : Type 0 where
-  pub within : done ≤ length list
-  pub room : told ≤ length space
-  pub same : length space ≡ length space₀
-  pub whole : (r ys : List ℕ) → FittingRun s (drop done list) (drop told space) r ys → FittingRun s₀ list space₀ r (take told space ++ ys)
+-- The run so far, with `rest` of the list still to come and `told` bytes of room behind it: whatever the run of the rest makes of the buffer from
+-- there on, it makes the run of the whole.
+pub record Pieced (s₀ list space₀ s space rest : List ℕ) (told : ℕ) : Type 0 where
+  pub whole : (r ys : List ℕ) → FittingRun s rest (drop told space) r ys → FittingRun s₀ list space₀ r (take told space ++ ys)
 
-pub pieced_start : {s list space : List ℕ} → Pieced s list space s space 0 0
-pieced_start = record { within = omega arith; room = omega arith; same = refl; whole = λ r ys run. run }
+pub pieced_start : {s list space : List ℕ} → Pieced s list space s space list 0
+pieced_start = record { whole = λ r ys run. run }
 
--- a piece behind which more is to come is whole, and has room
-pub goes_on : (list done end room : ℕ) → end ≡ piece_end list done → (eqb list end || ltb room 4500) ≡ false →
-    (end ≡ done + 1500) × (1500 ≤ list - done) × (4500 ≤ room)
-goes_on list done end room at more =
-    split (ltb (list - done) 1500)
-    (λ short.
-    let all : eqb list end ≡ true = eq-eqb list end (sym (at ∙ simp short)) in
-    absurd (true≢false (simp all at more)))
-    (λ long.
-    let part : eqb list end ≡ false = split (eqb list end) (λ (all : eqb list end ≡ true). absurd (true≢false (simp all at more))) (λ none. none) in
-    let loose : ltb room 4500 ≡ false = simp part at more in
-    (at ∙ simp long, ltb-false (list - done) 1500 long, ltb-false room 4500 loose))
+-- nothing is left that fits
+pub pieced-end : {s₀ list space₀ s space rest : List ℕ} {told : ℕ} → Pieced s₀ list space₀ s space rest told → fitting rest (drop told space) ≡ [] →
+    FittingRun s₀ list space₀ s space
+pieced-end {s₀} {list} {space₀} {s} {space} {told = told} so_far none =
+    subst (λ (d : List ℕ). FittingRun s₀ list space₀ s d) (take-append-drop told space) (so_far.whole s (drop told space) (run_none none))
 
-module _ {s₀ list space₀ s space : List ℕ} {done told : ℕ} (so_far : Pieced s₀ list space₀ s space done told) where
-  front_long : length (take told space) ≡ told
-  front_long = simp length-take (omega (arith, so_far.room))
+-- so the whole is run, and what is left adds nothing
+pieced_over : {s₀ list space₀ s space rest : List ℕ} {told : ℕ} → FittingRun s₀ list space₀ s space → fitting rest (drop told space) ≡ [] →
+    Pieced s₀ list space₀ s space rest told
+unfolding after
+pieced_over {s₀} {list} {space₀} {s} {space} {told = told} ran none =
+    let es = fitting list space₀ in
+    record {
+      whole = λ r ys run.
+          fitting-run (by_rule (chain (run-change ran) (run-change run)) (ap (after (after (view s₀) es)) none))
+          (ap (λ (d : List ℕ). take told space ++ d)
+          (run.buffer ∙ ap (λ (fs : List Event). filled (view s) fs (drop told space)) none ∙ filled_none (view s) (drop told space))
+          ∙ take-append-drop told space ∙ ran.buffer);
+    }
 
-  as_long : (ys : List ℕ) → length ys ≡ length (take (length space - told) (drop told space)) → length (handed told space ys) ≡ length space
-  as_long ys kept =
-      let long : length ys ≡ length space - told = kept ∙ ap length (take_rest told space) ∙ length-drop told space in
-      ap length (handed_back told space ys) ∙ length-append (take told space) ys ∙ omega (arith, front_long, long, so_far.room)
+front_long : (told : ℕ) (space : List ℕ) → told ≤ length space → length (take told space) ≡ told
+front_long told space inside = simp length-take (omega (arith, inside))
 
-  -- one piece more, its parts as the loop lends them
-  pieced_more : {t ys : List ℕ} → 1500 ≤ length list - done → 4500 ≤ length space - told →
-      length (handed told space ys) ≡ length space →
-      FittingRun s (take (done + 1500 - done) (drop done list)) (take (length space - told) (drop told space)) t ys →
-      Pieced s₀ list space₀ t (handed told space ys) (done + 1500) (told + 4500)
-  pieced_more {t} {ys} some room long lent =
-      let short : done + 1500 - done ≡ 1500 = omega arith in
-      let piece : FittingRun s (take 1500 (drop done list)) (drop told space) t ys = rw (short, take_rest told space) at lent in
+as_long : (told : ℕ) (space ys : List ℕ) → told ≤ length space → length ys ≡ length (take (length space - told) (drop told space)) →
+    length (handed told space ys) ≡ length space
+as_long told space ys inside kept =
+    let long : length ys ≡ length space - told = kept ∙ ap length (take_rest told space) ∙ length-drop told space in
+    ap length (handed_back told space ys) ∙ length-append (take told space) ys ∙ omega (arith, front_long told space inside, long, inside)
+
+module _ {s₀ list space₀ s space piece rest : List ℕ} {told : ℕ} (so_far : Pieced s₀ list space₀ s space (piece ++ rest) told) (inside : told ≤ length space)
+    {t ys : List ℕ} (ran : FittingRun s piece (drop told space) t ys) where
+  -- a whole piece that has room
+  pieced_more : length piece ≡ 1500 → 4500 ≤ length space - told → Pieced s₀ list space₀ t (handed told space ys) rest (told + 4500)
+  pieced_more whole room =
+      let front = front_long told space inside in
       let back = handed_back told space ys in
+      let later : drop (told + 4500) (handed told space ys) ≡ drop 4500 ys =
+      ap (drop (told + 4500)) back
+      ∙ sym (drop-drop 4500 told (take told space ++ ys)) ∙ ap (drop 4500) (drop_at (take told space) ys told front) in
+      let taken : take (told + 4500) (handed told space ys) ≡ take told space ++ take 4500 ys =
+      ap (take (told + 4500)) back
+      ∙ ap (λ (n : ℕ). take (n + 4500) (take told space ++ ys)) (sym front) ∙ take-append-add (take told space) ys 4500 in
+      let first_part : FittingRun s (take 1500 (piece ++ rest)) (drop told space) t ys =
+      subst (λ (d : List ℕ). FittingRun s d (drop told space) t ys) (sym (take_at piece rest 1500 whole)) ran in
       record {
-        within = omega (arith, some, so_far.within);
-        room = omega (arith, long, room, so_far.room);
-        same = long ∙ so_far.same;
-        whole = λ r zs rest.
-            let later : drop (told + 4500) (handed told space ys) ≡ drop 4500 ys =
-            ap (drop (told + 4500)) back
-            ∙ sym (drop-drop 4500 told (take told space ++ ys)) ∙ ap (drop 4500) (drop_at (take told space) ys told front_long) in
-            let whole-rest : FittingRun t (drop 1500 (drop done list)) (drop 4500 ys) r zs =
-            subst (λ (d : List ℕ). FittingRun t (drop 1500 (drop done list)) d r zs) later
-            (subst (λ (d : List ℕ). FittingRun t d (drop (told + 4500) (handed told space ys)) r zs) (sym (drop-drop 1500 done list)) rest) in
-            let taken : take (told + 4500) (handed told space ys) ≡ take told space ++ take 4500 ys =
-            ap (take (told + 4500)) back
-            ∙ ap (λ (n : ℕ). take (n + 4500) (take told space ++ ys)) (sym front_long) ∙ take-append-add (take told space) ys 4500 in
+        whole = λ r zs run.
+            let behind : FittingRun t (drop 1500 (piece ++ rest)) (drop 4500 ys) r zs =
+            subst (λ (d : List ℕ). FittingRun t (drop 1500 (piece ++ rest)) d r zs) later
+            (subst (λ (d : List ℕ). FittingRun t d (drop (told + 4500) (handed told space ys)) r zs) (sym (drop_at piece rest 1500 whole)) run) in
             subst (λ (d : List ℕ). FittingRun s₀ list space₀ r d)
             (sym (append_assoc (take told space) (take 4500 ys) zs) ∙ ap (λ (d : List ℕ). d ++ zs) (sym taken))
             (so_far.whole r (take 4500 ys ++ zs)
-            (run_pieces 500 (simp length-drop (omega (arith, some))) (simp length-drop (omega (arith, room))) piece whole-rest));
+            (run_pieces 500 (simp length-append (omega (arith, whole))) (simp length-drop (omega (arith, room))) first_part behind));
       }
 
-  module _ {end : ℕ} {t ys : List ℕ} (at : end ≡ piece_end (length list) done)
-      (kept : length ys ≡ length (take (length space - told) (drop told space)))
-      (lent : FittingRun s (take (end - done) (drop done list)) (take (length space - told) (drop told space)) t ys) where
-    -- the test behind the piece says that more is to come
-    pub pieced-next : (eqb (length list) end || ltb (length (handed told space ys) - told) 4500) ≡ false →
-        Pieced s₀ list space₀ t (handed told space ys) end (told + 4500)
-    pieced-next more =
-        let (stop, some, loose) = goes_on (length list) done end (length (handed told space ys) - told) at more in
-        let long = as_long ys kept in
-        subst (λ (n : ℕ). Pieced s₀ list space₀ t (handed told space ys) n (told + 4500)) (sym stop)
-        (pieced_more some (omega (arith, loose, long)) long
-        (subst (λ (n : ℕ). FittingRun s (take (n - done) (drop done list)) (take (length space - told) (drop told space)) t ys) stop lent))
+  -- all that there is, or more than there is room for
+  pieced_last : fitting piece (drop told space) ≡ fitting (piece ++ rest) (drop told space) → fitting rest (drop (told + 4500) (handed told space ys)) ≡ [] →
+      Pieced s₀ list space₀ t (handed told space ys) rest (told + 4500)
+  pieced_last all none =
+      pieced_over
+      (subst (λ (d : List ℕ). FittingRun s₀ list space₀ t d) (sym (handed_back told space ys)) (so_far.whole t ys (run-same all ran)))
+      none
 
-    -- the last piece: all that is left of the list
-    to_the_end : end ≡ length list → fitting (take (end - done) (drop done list)) (drop told space) ≡ fitting (drop done list) (drop told space)
-    to_the_end stop =
-        ap (λ (n : ℕ). fitting (take (n - done) (drop done list)) (drop told space)) stop
-        ∙ ap (λ (l : List ℕ). fitting l (drop told space)) (take_rest done list)
-
-    -- or more than there is room for
-    pub pieced-end : (eqb (length list) end || ltb (length (handed told space ys) - told) 4500) ≡ true → FittingRun s₀ list space₀ t (handed told space ys)
-    pieced-end last =
-        let rest = drop done list in
-        let room = drop told space in
-        let ran : FittingRun s (take (end - done) rest) room t ys = rw (take_rest told space) at lent in
-        let all : fitting (take (end - done) rest) room ≡ fitting rest room =
-        split (eqb (length list) end) (λ whole. to_the_end (sym (eqb-true (length list) end whole)))
-        (λ part.
-        let tight : ltb (length (handed told space ys) - told) 4500 ≡ true = simp part at last in
-        split (ltb (length list - done) 1500) (λ short. to_the_end (at ∙ simp short))
-        (λ long.
-        let stop : end ≡ done + 1500 = at ∙ simp long in
-        let stops : end - done ≡ 1500 = omega (arith, stop) in
-        let few = ltb-true (length (handed told space ys) - told) 4500 tight in
-        ap (λ (n : ℕ). fitting (take n rest) room) stops
-        ∙ fitting_cut 500 rest room
-        (simp length-drop (ltb-false (length list - done) 1500 long)) (simp length-drop (omega (arith, few, as_long ys kept))))) in
-        rw (handed_back told space ys) (so_far.whole t ys (run-same all ran))
-
--- ---- EventAnswered: an event with room for its answer alone
-pub answered : {s s' answer₀ reply : List ℕ} {e : Event} → length answer₀ ≡ 9 → EventWritten s e answer₀ s' reply → EventAnswered s e s' reply
-answered {s} {answer₀ = answer₀} {e = e} nine one =
-    record {
-      stepped = one.change.machine;
-      bytes = λ b. one.change.bytes b ∙ ap state_of one.change.machine;
-      answered =
-          one.buffer ∙ ap (λ (d : List ℕ). answer (view s) e ++ d) (drop_of_length-le answer₀ {i = 9} (omega (arith, nine)))
-          ∙ append-nil (answer (view s) e);
-      unchanged = one.unchanged;
-      kept = one.kept;
-    }
-
--- the lines of a state, in a buffer for one answer
-pub lines-shown : (s answer₀ : List ℕ) {reply : List ℕ} → length (set (set (set (set answer₀ 0 0) 1 0) 2 0) 5 0) ≡ 9 →
-    reply ≡ lines_laid (public s) (set (set (set (set answer₀ 0 0) 1 0) 2 0) 5 0) →
-    reply ≡ standing (public s)
-lines-shown s answer₀ long laid =
-    let nine : length answer₀ ≡ 9 = simp length-set at long in
-    laid ∙ nine_laid 0 0 0 0 (public s) answer₀ (omega (arith, nine))
-    ∙ ap (λ (d : List ℕ). standing (public s) ++ d) (drop_of_length-le answer₀ {i = 9} (omega (arith, nine))) ∙ append-nil (standing (public s))
+-- one piece more, its parts as the loop lends them
+pub pieced-next : {s₀ list space₀ s space piece rest t ys : List ℕ} {told next : ℕ} → told + 4500 ≡ next →
+    Pieced s₀ list space₀ s space (piece ++ rest) told →
+    length piece ≡ min 1500 (length (piece ++ rest)) →
+    told ≤ length space →
+    length ys ≡ length (take (length space - told) (drop told space)) →
+    FittingRun s piece (take (length space - told) (drop told space)) t ys →
+    Pieced s₀ list space₀ t (handed told space ys) rest next
+pieced-next {s₀} {list} {space₀} {s} {space} {piece} {rest} {t} {ys} {told} stop so_far long inside kept lent =
+    let ran : FittingRun s piece (drop told space) t ys = subst (λ (d : List ℕ). FittingRun s piece d t ys) (take_rest told space) lent in
+    let both = long ∙ ap (min 1500) (length-append piece rest) in
+    let same = as_long told space ys inside kept in
+    subst (λ (n : ℕ). Pieced s₀ list space₀ t (handed told space ys) rest n) stop
+    (split (ltb (length piece) 1500)
+    (λ few.
+    let short = ltb-true (length piece) 1500 few in
+    let none : length rest ≡ 0 = omega (arith, short, both) in
+    let all : piece ≡ piece ++ rest = sym (append-nil piece) ∙ ap (λ (l : List ℕ). piece ++ l) (sym (nil_from_length rest none)) in
+    pieced_last so_far inside ran (ap (λ (l : List ℕ). fitting l (drop told space)) all)
+    (fitting_short rest (drop (told + 4500) (handed told space ys)) (omega (arith, none))))
+    (λ many.
+    let whole : length piece ≡ 1500 = omega (arith, ltb-false (length piece) 1500 many, both) in
+    split (ltb (length space - told) 4500)
+    (λ tight.
+    let little = ltb-true (length space - told) 4500 tight in
+    pieced_last so_far inside ran
+    (ap (λ (l : List ℕ). fitting l (drop told space)) (sym (take_at piece rest 1500 whole))
+    ∙ fitting_cut 500 (piece ++ rest) (drop told space) (simp length-append (omega (arith, whole))) (simp length-drop (omega (arith, little))))
+    (fitting_tight rest (drop (told + 4500) (handed told space ys)) (simp (length-drop, same) (omega (arith, little)))))
+    (λ room. pieced_more so_far inside ran whole (ltb-false (length space - told) 4500 room))))

@@ -1,31 +1,35 @@
 -- Laws of the definitions in specs/Moves: the promised record for each way through the calls, and that there and back gives the same bytes.
 -- Assumes nothing.
-use mathlib.Core.Path.{◌≡◌, refl, ap, sym, subst, ◌∙◌}
-use mathlib.Core.Bool.{Bool, true, false, not}
+use mathlib.Core.Path.{◌≡◌, refl, ap, ap₂, sym, subst, ◌∙◌}
+use mathlib.Core.Bool.{Bool, true, false}
 use mathlib.Core.List.{List, [], ◌∷◌, ◌++◌}
 use Prim.Native.Nat.{ℕ, ◌+◌}
 use native.Mathlib.Omega.{arith}
 use lib.ListN.{length, take, drop, length-append, length-take, length-drop, take-append-drop}
 use lib.Seq.{take_at, take_all}
 use lib.Dec.{eqb}
-use borrow.Author.Tests.{eq-eqb, ne_eqb, eqb-true, not-true, not-false}
-use Rattle.translation.proofs.Tests.{and_true, cond_true, cond_false}
+use borrow.Author.Tests.{eq-eqb, ne_eqb, eqb-true, eqb-false}
+use Rattle.translation.proofs.Tests.{split, and_true, cond_true, cond_false}
 use Rattle.translation.proofs.Lists.{listed, take_listed, Below}
+use Rattle.refusals.specs.declared.refusal.Refusal.{Refusal}
+use Rattle.refusals.specs.declared.refusal.Refusal.TheVariants.{OtherSettings}
+use Rattle.refusals.specs.Numbers.{number}
+use Rattle.refusals.proofs.Refused.{no_zero}
 use Rattle.image_bytes.specs.Checks.{first_of}
 use Rattle.image_bytes.specs.Layout.{first_length, body_length, image_length, sealed}
 use Rattle.image_bytes.specs.Seal.{space_refusal, Written}
 use Rattle.image_bytes.specs.Find.{body_size, found}
-use Rattle.image_bytes.proofs.Laws.Checks.{first_of-none, first_of_some}
+use Rattle.image_bytes.proofs.Laws.Checks.{first_of-none, first_of_some, first_of_zero, first_of-assoc, first_of_stands}
 use Rattle.image_bytes.proofs.Laws.Layout.{length-sealed}
 use Rattle.image_bytes.proofs.Laws.Seal.{image_written-refused, image_written-room}
 use Rattle.image_bytes.proofs.Laws.Find.{sealed_1, sealed_2, size_1, size_2, found_sized, length_found}
 use Rattle.image_bytes.proofs.Laws.Trailer.{body_of-sealed, sealed-trailer, last_bytes-sealed}
 use Rattle.body_rules.specs.Rules.{body_kept}
 use Rattle.body_rules.specs.Body.{options_byte, input_latches_byte, high_latches_byte, time_out_byte}
-use Rattle.editions.specs.Read.{plain_bytes, completed, image_refusal, BodyRead}
+use Rattle.editions.specs.Read.{plain_bytes, completed, image_refusal}
 use Rattle.editions.specs.Moves.{forward, back, edition_refusal, plain, settings_refusal, forward_refusal, back_refusal, Moved}
 use Rattle.editions.specs.Moves.{ForwardAndBack, BackAndForward}
-use Rattle.editions.proofs.Laws.Read.{completed_1, completed_2, image_refusal-kept, accepted-kept}
+use Rattle.editions.proofs.Laws.Read.{completed_1, completed_2, length-completed, image_refusal-kept, accepted-kept}
 
 -- ---- edition_refusal, settings_refusal
 module _ (n : ℕ) (bytes : List ℕ) where
@@ -36,6 +40,13 @@ module _ (n : ℕ) (bytes : List ℕ) where
   edition_refusal-other : (body_size bytes ≡ n → ⊥) → edition_refusal n bytes ≡ 10
   unfolding edition_refusal
   edition_refusal-other other = cond_false _ _ _ (ne_eqb (body_size bytes) n other)
+
+-- and the other way round
+edition_refusal_zero : (n : ℕ) (bytes : List ℕ) → edition_refusal n bytes ≡ 0 → body_size bytes ≡ n
+edition_refusal_zero n bytes z =
+    split (eqb (body_size bytes) n)
+    (λ e. eqb-true (body_size bytes) n e)
+    (λ e. absurd (omega (arith, z, edition_refusal-other n bytes (eqb-false (body_size bytes) n e))))
 
 settings_refusal-plain : (b : List ℕ) → plain b ≡ true → settings_refusal b ≡ 0
 unfolding settings_refusal
@@ -109,54 +120,30 @@ unfolding back
 length_back bytes two = length-sealed 1 (take first_length (found bytes)) ∙ omega (arith, front_long bytes [] two)
 
 -- ---- forward_refusal, back_refusal
-module _ (bytes space : List ℕ) where
-  forward-other : (body_size bytes ≡ first_length → ⊥) → forward_refusal bytes space ≡ 10
+module _ (bytes space : List ℕ) (z : image_refusal bytes ≡ 0) where
+  forward-space : body_size bytes ≡ first_length → forward_refusal bytes space ≡ space_refusal (length (forward bytes)) space
   unfolding forward_refusal
-  forward-other other =
-      let ten = edition_refusal-other first_length bytes other in
-      first_of_some (edition_refusal first_length bytes) _ (λ z. omega (arith, z, ten)) ∙ ten
-
-  back-other : (body_size bytes ≡ body_length → ⊥) → back_refusal bytes space ≡ 10
-  unfolding back_refusal
-  back-other other =
-      let ten = edition_refusal-other body_length bytes other in
-      first_of_some (edition_refusal body_length bytes) _ (λ z. omega (arith, z, ten)) ∙ ten
-
-  module _ (one : body_size bytes ≡ first_length) where
-    forward-refused : (image_refusal bytes ≡ 0 → ⊥) → forward_refusal bytes space ≡ image_refusal bytes
-    unfolding forward_refusal
-    forward-refused stands =
-        first_of-none (edition_refusal first_length bytes) _ (edition_refusal-same first_length bytes one) ∙ first_of_some (image_refusal bytes) _ stands
-
-    forward-space : image_refusal bytes ≡ 0 → forward_refusal bytes space ≡ space_refusal (length (forward bytes)) space
-    unfolding forward_refusal
-    forward-space z =
-        first_of-none (edition_refusal first_length bytes) _ (edition_refusal-same first_length bytes one) ∙ first_of-none (image_refusal bytes) _ z
+  forward-space one =
+      first_of-none (edition_refusal first_length bytes) _ (edition_refusal-same first_length bytes one) ∙ first_of-none (image_refusal bytes) _ z
 
   module _ (two : body_size bytes ≡ body_length) where
-    back-refused : (image_refusal bytes ≡ 0 → ⊥) → back_refusal bytes space ≡ image_refusal bytes
+    back-checked : back_refusal bytes space ≡ first_of (settings_refusal (found bytes)) (space_refusal (length (back bytes)) space)
     unfolding back_refusal
-    back-refused stands =
-        first_of-none (edition_refusal body_length bytes) _ (edition_refusal-same body_length bytes two) ∙ first_of_some (image_refusal bytes) _ stands
+    back-checked =
+        first_of-none (edition_refusal body_length bytes) _ (edition_refusal-same body_length bytes two) ∙ first_of-none (image_refusal bytes) _ z
 
-    module _ (z : image_refusal bytes ≡ 0) where
-      back-checked : back_refusal bytes space ≡ first_of (settings_refusal (found bytes)) (space_refusal (length (back bytes)) space)
-      unfolding back_refusal
-      back-checked =
-          first_of-none (edition_refusal body_length bytes) _ (edition_refusal-same body_length bytes two) ∙ first_of-none (image_refusal bytes) _ z
+    back-settings : plain (found bytes) ≡ false → back_refusal bytes space ≡ 16
+    back-settings e =
+        let sixteen = settings_refusal-other (found bytes) e in
+        back-checked ∙ first_of_some (settings_refusal (found bytes)) _ (λ n. omega (arith, n, sixteen)) ∙ sixteen
 
-      back-settings : plain (found bytes) ≡ false → back_refusal bytes space ≡ 16
-      back-settings e =
-          let sixteen = settings_refusal-other (found bytes) e in
-          back-checked ∙ first_of_some (settings_refusal (found bytes)) _ (λ n. omega (arith, n, sixteen)) ∙ sixteen
-
-      back-space : plain (found bytes) ≡ true → back_refusal bytes space ≡ space_refusal (length (back bytes)) space
-      back-space e = back-checked ∙ first_of-none (settings_refusal (found bytes)) _ (settings_refusal-plain (found bytes) e)
+    back-space : plain (found bytes) ≡ true → back_refusal bytes space ≡ space_refusal (length (back bytes)) space
+    back-space e = back-checked ∙ first_of-none (settings_refusal (found bytes)) _ (settings_refusal-plain (found bytes) e)
 
 -- ---- Moved
-moved-refused : (image space : List ℕ) {check n : ℕ} → check ≡ n → (n ≡ 0 → ⊥) → Moved image check space n space
-moved-refused image space e stands =
-    record { refusal = sym e; refused = λ _. refl; moved = λ z. absurd (stands (sym e ∙ z)) }
+moved-refused : (image space : List ℕ) {check : ℕ} (r : Refusal) → number r ≡ check → Moved image check space (number r) space
+moved-refused image space r e =
+    record { refusal = e; refused = λ _. refl; moved = λ z. absurd (no_zero r (e ∙ z)) }
 
 -- only space can be wanting, and this is what was written
 moved_written : {image space space' : List ℕ} {check n : ℕ} → check ≡ space_refusal (length image) space → Written image space n space' →
@@ -168,55 +155,54 @@ moved_written {image} {space} last w =
       moved = λ z. w.bytes ∙ image_written-room image space (sym last ∙ z);
     }
 
+-- what stands before the last checks of a move of an image whose body has n bytes
+abbrev pub taken_refusal : ℕ → List ℕ → ℕ
+taken_refusal n bytes = first_of (edition_refusal n bytes) (image_refusal bytes)
+
+pub taken_long : (n : ℕ) (bytes : List ℕ) {body : List ℕ} → body ≡ completed (found bytes) → 0 ≡ taken_refusal n bytes → length body ≡ body_length
+taken_long n bytes read taken = ap length read ∙ length-completed bytes (first_of_zero (edition_refusal n bytes) _ (sym taken)).1
+
 module _ (bytes space : List ℕ) where
-  -- the size of the body, as it was told
-  module _ {size : ℕ} (told : size ≡ body_size bytes) where
-    pub forward-none : (size ≡ first_length → ⊥) → Moved (forward bytes) (forward_refusal bytes space) space 10 space
-    forward-none other = moved-refused (forward bytes) space (forward-other bytes space (λ e. other (told ∙ e))) (λ e. omega arith)
+  pub forward-untaken : (r : Refusal) → number r ≡ taken_refusal first_length bytes → Moved (forward bytes) (forward_refusal bytes space) space (number r) space
+  unfolding forward_refusal
+  forward-untaken r e = moved-refused (forward bytes) space r (first_of_stands r e _ ∙ sym (first_of-assoc _ _ _))
 
-    pub back_none : (size ≡ body_length → ⊥) → Moved (back bytes) (back_refusal bytes space) space 10 space
-    back_none other = moved-refused (back bytes) space (back-other bytes space (λ e. other (told ∙ e))) (λ e. omega arith)
+  pub back-untaken : (r : Refusal) → number r ≡ taken_refusal body_length bytes → Moved (back bytes) (back_refusal bytes space) space (number r) space
+  unfolding back_refusal
+  back-untaken r e = moved-refused (back bytes) space r (first_of_stands r e _ ∙ sym (first_of-assoc _ _ _))
 
-    -- what was read of it
-    module _ {body body' : List ℕ} {n : ℕ} (read : BodyRead bytes body n body') where
-      stands : (n ≡ 0 → ⊥) → image_refusal bytes ≡ 0 → ⊥
-      stands some z = some (read.refusal ∙ z)
+  module _ {body : List ℕ} (read : body ≡ completed (found bytes)) where
+    pub forward-written : {edition : ℕ} {space' : List ℕ} {k : ℕ} → 0 ≡ taken_refusal first_length bytes → edition ≡ 2 →
+        Written (sealed edition body) space k space' →
+        Moved (forward bytes) (forward_refusal bytes space) space k space'
+    unfolding forward
+    forward-written {space' = space'} {k = k} taken second w =
+        let (same, z) = first_of_zero _ _ (sym taken) in
+        moved_written (forward-space bytes space z (edition_refusal_zero first_length bytes same))
+        (subst (λ (l : List ℕ). Written l space k space') (ap₂ sealed second read) w)
 
-      pub forward-unread : size ≡ first_length → (n ≡ 0 → ⊥) → Moved (forward bytes) (forward_refusal bytes space) space n space
-      forward-unread one some =
-          moved-refused (forward bytes) space (forward-refused bytes space (sym told ∙ one) (stands some) ∙ sym read.refusal) some
+    -- a body of edition 2 was read as it is
+    module _ (taken : 0 ≡ taken_refusal body_length bytes) where
+      two : body_size bytes ≡ body_length
+      two = edition_refusal_zero body_length bytes (first_of_zero _ _ (sym taken)).0
 
-      pub back-unread : size ≡ body_length → (n ≡ 0 → ⊥) → Moved (back bytes) (back_refusal bytes space) space n space
-      back-unread two some = moved-refused (back bytes) space (back-refused bytes space (sym told ∙ two) (stands some) ∙ sym read.refusal) some
+      accepted : image_refusal bytes ≡ 0
+      accepted = (first_of_zero (edition_refusal body_length bytes) _ (sym taken)).1
 
-      module _ (none : n ≡ 0) where
-        zero : image_refusal bytes ≡ 0
-        zero = sym read.refusal ∙ none
+      whole : body ≡ found bytes
+      whole = read ∙ completed_2 (found bytes) (length_found bytes ∙ two)
 
-        pub forward-written : {space' : List ℕ} {k : ℕ} → size ≡ first_length → Written (sealed 2 body') space k space' →
-            Moved (forward bytes) (forward_refusal bytes space) space k space'
-        unfolding forward
-        forward-written {space'} {k} one w =
-            moved_written (forward-space bytes space (sym told ∙ one) zero)
-            (subst (λ (b : List ℕ). Written (sealed 2 b) space k space') (read.taken zero) w)
+      pub back-other-settings : {t : Bool} → t ≡ plain body → t ≡ false → Moved (back bytes) (back_refusal bytes space) space 16 space
+      back-other-settings test other =
+          moved-refused (back bytes) space OtherSettings (sym (back-settings bytes space accepted two (ap plain (sym whole) ∙ sym test ∙ other)))
 
-        -- a body of edition 2 was read as it is
-        module _ (two : size ≡ body_length) where
-          whole : body' ≡ found bytes
-          whole = read.taken zero ∙ completed_2 (found bytes) (length_found bytes ∙ sym told ∙ two)
-
-          pub back-other-settings : {t : Bool} → t ≡ plain body' → not t ≡ true → Moved (back bytes) (back_refusal bytes space) space 16 space
-          back-other-settings test other =
-              moved-refused (back bytes) space
-              (back-settings bytes space (sym told ∙ two) zero (sym (test ∙ ap plain whole) ∙ not-true _ other)) (λ e. omega arith)
-
-          pub back-written : {t : Bool} {space' : List ℕ} {k : ℕ} → t ≡ plain body' → not t ≡ false →
-              Written (sealed 1 (take first_length body')) space k space' →
-              Moved (back bytes) (back_refusal bytes space) space k space'
-          unfolding back
-          back-written {space' = space'} {k = k} test same w =
-              moved_written (back-space bytes space (sym told ∙ two) zero (sym (test ∙ ap plain whole) ∙ not-false _ same))
-              (subst (λ (b : List ℕ). Written (sealed 1 (take first_length b)) space k space') whole w)
+      pub back-written : {t : Bool} {edition : ℕ} {space' : List ℕ} {k : ℕ} → t ≡ plain body → t ≡ true → edition ≡ 1 →
+          Written (sealed edition (take first_length body)) space k space' →
+          Moved (back bytes) (back_refusal bytes space) space k space'
+      unfolding back
+      back-written {space' = space'} {k = k} test same first w =
+          moved_written (back-space bytes space accepted two (ap plain (sym whole) ∙ sym test ∙ same))
+          (subst (λ (l : List ℕ). Written l space k space') (ap₂ sealed first (ap (take first_length) whole)) w)
 
 -- ---- there and back
 module _ (bytes : List ℕ) (bound : Below 256 bytes) (z : image_refusal bytes ≡ 0) where
@@ -228,7 +214,7 @@ module _ (bytes : List ℕ) (bound : Below 256 bytes) (z : image_refusal bytes �
     unfolding back
     forward-and-back =
         record {
-          goes = λ space. forward-space bytes space one z ∙ ap (λ (n : ℕ). space_refusal n space) (length-forward bytes one);
+          goes = λ space. forward-space bytes space z one ∙ ap (λ (n : ℕ). space_refusal n space) (length-forward bytes one);
           comes = λ front space.
               let there = front ++ forward bytes in
               let size = forward-size bytes front one in
@@ -236,7 +222,7 @@ module _ (bytes : List ℕ) (bound : Below 256 bytes) (z : image_refusal bytes �
               let known : image_refusal there ≡ 0 =
               image_refusal-kept there (λ e. omega (arith, e, size))
               (ap (λ (b : List ℕ). body_kept (completed b)) here ∙ ap body_kept (completed_2 _ (added-long bytes front one)) ∙ accepted-kept bytes z) in
-              back-space there space size known (ap plain (here ∙ added bytes front one) ∙ plain-added (found bytes) (first-long bytes front one))
+              back-space there space known size (ap plain (here ∙ added bytes front one) ∙ plain-added (found bytes) (first-long bytes front one))
               ∙ ap (λ (n : ℕ). space_refusal n space) (length_back there size);
           same = λ front.
               ap (λ (b : List ℕ). sealed 1 (take first_length b)) (forward-found bytes front one)
@@ -254,14 +240,14 @@ module _ (bytes : List ℕ) (bound : Below 256 bytes) (z : image_refusal bytes �
     unfolding forward
     back-and-forward =
         record {
-          goes = λ space. back-space bytes space two z settings ∙ ap (λ (n : ℕ). space_refusal n space) (length_back bytes two);
+          goes = λ space. back-space bytes space z two settings ∙ ap (λ (n : ℕ). space_refusal n space) (length_back bytes two);
           comes = λ front space.
               let there = front ++ back bytes in
               let size = back-size bytes front two in
               let here : completed (found there) ≡ completed (found bytes) =
               ap completed (back_found bytes front two) ∙ again ∙ sym (completed_2 (found bytes) (second-long bytes front two)) in
               let known : image_refusal there ≡ 0 = image_refusal-kept there (λ e. omega (arith, e, size)) (ap body_kept here ∙ accepted-kept bytes z) in
-              forward-space there space size known ∙ ap (λ (n : ℕ). space_refusal n space) (length-forward there size);
+              forward-space there space known size ∙ ap (λ (n : ℕ). space_refusal n space) (length-forward there size);
           same = λ front.
               ap (λ (b : List ℕ). sealed 2 (completed b)) (back_found bytes front two)
               ∙ ap (sealed 2) (again ∙ found_sized bytes two)

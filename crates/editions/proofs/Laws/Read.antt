@@ -1,18 +1,19 @@
 -- Laws of the definitions in specs/Read, and the promised record for each way through the call. Assumes nothing.
-use mathlib.Core.Path.{◌≡◌, refl, ap, sym, subst, ◌∙◌}
-use mathlib.Core.Bool.{Bool, true, false, not}
+use mathlib.Core.Path.{◌≡◌, ap, sym, subst, ◌∙◌}
+use mathlib.Core.Bool.{Bool, true, false}
 use mathlib.Core.List.{List, ◌++◌, append-nil}
 use Prim.Native.Nat.{ℕ, ◌≤◌}
 use native.Mathlib.Omega.{arith}
-use lib.ListN.{length, drop, set, replicate, length-append}
+use lib.ListN.{length, drop, replicate, length-append}
 use lib.Seq.{take_at, take_all}
-use borrow.Author.Tests.{eq-eqb, ne_eqb, not-true, not-false}
+use borrow.Author.Tests.{eq-eqb, ne_eqb}
 use Rattle.translation.proofs.Tests.{split, and_one, cond_true, cond_false}
 use Rattle.translation.proofs.Lists.{listed, take_listed}
+use Rattle.std.specs.Prelude.{Ok, Err}
+use Rattle.refusals.specs.declared.refusal.Refusal.TheVariants as check
 use Rattle.image_bytes.specs.Layout.{first_length, body_length}
 use Rattle.image_bytes.specs.Find.{body_size, found}
 use Rattle.image_bytes.proofs.Laws.Checks.{first_of-none, first_of_some}
-use Rattle.image_bytes.proofs.Laws.Copy.{copied, copied_front}
 use Rattle.image_bytes.proofs.Laws.Find.{by_size, length_found, body_size_most}
 use Rattle.body_rules.specs.Added.{unused_kept, first_set_kept, ps2_kept, second_set_kept, added_kept}
 use Rattle.body_rules.specs.Rules.{flags_kept, pending_kept, overlay_kept, sending_kept, code_kept, lock_kept, common_kept, body_kept}
@@ -89,7 +90,11 @@ module _ (bytes : List ℕ) where
 -- ---- BodyRead
 -- what the program copies a body over
 abbrev pub base : List ℕ
-base = set (set (replicate body_length 0) 61 0x3F) 62 3
+base = replicate first_length 0 ++ plain_bytes
+
+-- bytes copied to the front of others
+abbrev pub copied : List ℕ → List ℕ → List ℕ
+copied s d = s ++ drop (length s) d
 
 copied_completed : (bytes : List ℕ) → (body_size bytes ≡ 0 → ⊥) → copied (found bytes) base ≡ completed (found bytes)
 copied_completed bytes some =
@@ -98,42 +103,33 @@ copied_completed bytes some =
     (λ e. absurd (some e))
     (λ e _.
     let long = length_found bytes ∙ e in
-    copied_front b base ∙ ap (λ (k : ℕ). b ++ drop k base) long ∙ sym (completed_1 b long))
+    ap (λ (k : ℕ). b ++ drop k base) long ∙ sym (completed_1 b long))
     (λ e _.
     let long = length_found bytes ∙ e in
-    copied_front b base ∙ ap (λ (k : ℕ). b ++ drop k base) long ∙ append-nil b ∙ sym (completed_2 b long))
+    ap (λ (k : ℕ). b ++ drop k base) long ∙ append-nil b ∙ sym (completed_2 b long))
 
-module _ (bytes : List ℕ) where
-  pub read_long : {body body' : List ℕ} {n : ℕ} → BodyRead bytes body n body' → n ≡ 0 → length body' ≡ body_length
-  read_long read none = let z = sym read.refusal ∙ none in ap length (read.taken z) ∙ length-completed bytes z
+module _ (bytes : List ℕ) {part : List ℕ} (here : part ≡ found bytes) where
+  size : length part ≡ body_size bytes
+  size = ap length here ∙ length_found bytes
 
-  read_refused : {body : List ℕ} {n : ℕ} → image_refusal bytes ≡ n → (n ≡ 0 → ⊥) → BodyRead bytes body n body
-  read_refused e stands = record { refusal = sym e; refused = λ _. refl; taken = λ z. absurd (stands (sym e ∙ z)) }
+  pub part-most : length part ≤ body_length
+  part-most = omega (arith, size, body_size_most bytes)
 
-  module _ {part : List ℕ} (here : part ≡ found bytes) where
-    size : length part ≡ body_size bytes
-    size = ap length here ∙ length_found bytes
+  pub read_none : length part ≡ 0 → BodyRead bytes (Err check.NoImage)
+  read_none none = record { refusal = sym (image_refusal-none bytes (sym size ∙ none)); body = tt }
 
-    pub part-most : length part ≤ body_length
-    part-most = omega (arith, size, body_size_most bytes)
+  module _ {body : List ℕ} {kept : Bool} (some : length part ≡ 0 → ⊥) (taken : body ≡ copied part base) (test : kept ≡ body_kept body) where
+    there : body_size bytes ≡ 0 → ⊥
+    there e = some (size ∙ e)
 
-    pub read_none : {body : List ℕ} → length part ≡ 0 → BodyRead bytes body 10 body
-    read_none none = read_refused (image_refusal-none bytes (sym size ∙ none)) (λ e. omega arith)
+    same : body ≡ completed (found bytes)
+    same = taken ∙ ap (λ (l : List ℕ). copied l base) here ∙ copied_completed bytes there
 
-    module _ {whole : List ℕ} {kept : Bool} (some : length part ≡ 0 → ⊥) (taken : whole ≡ copied part base) (test : kept ≡ body_kept whole) where
-      there : body_size bytes ≡ 0 → ⊥
-      there e = some (size ∙ e)
+    judged : kept ≡ body_kept (completed (found bytes))
+    judged = test ∙ ap body_kept same
 
-      same : whole ≡ completed (found bytes)
-      same = taken ∙ ap (λ (l : List ℕ). copied l base) here ∙ copied_completed bytes there
+    pub read-broken : kept ≡ false → BodyRead bytes (Err check.BrokenBody)
+    read-broken broken = record { refusal = sym (image_refusal-broken bytes there (sym judged ∙ broken)); body = tt }
 
-      judged : kept ≡ body_kept (completed (found bytes))
-      judged = test ∙ ap body_kept same
-
-      pub read-broken : {body : List ℕ} → not kept ≡ true → BodyRead bytes body 11 body
-      read-broken broken = read_refused (image_refusal-broken bytes there (sym judged ∙ not-true _ broken)) (λ e. omega arith)
-
-      pub read_whole : {body : List ℕ} → not kept ≡ false → BodyRead bytes body 0 whole
-      read_whole keeps =
-          let z = image_refusal-kept bytes there (sym judged ∙ not-false _ keeps) in
-          record { refusal = sym z; refused = λ stands. absurd (stands z); taken = λ _. same }
+    pub read_whole : kept ≡ true → BodyRead bytes (Ok body)
+    read_whole keeps = record { refusal = sym (image_refusal-kept bytes there (sym judged ∙ keeps)); body = same }

@@ -5,6 +5,10 @@ use Prim.Native.Nat.{ℕ, ◌<◌}
 use native.Mathlib.Omega.{arith}
 use lib.ListN.{length, take, drop, length-take}
 use lib.Seq.{drop_at}
+use Rattle.std.specs.Prelude.{Ok, Err}
+use Rattle.refusals.specs.declared.refusal.Refusal.{Refusal}
+use Rattle.refusals.specs.Numbers.{number}
+use Rattle.refusals.proofs.Refused.{no_zero}
 use Rattle.translation.specs.KeyTable.{built_in, table_refusal}
 use Rattle.translation.proofs.Lists.{Below}
 use Rattle.machine.specs.Settings.{settings_of}
@@ -15,11 +19,9 @@ use Rattle.state.proofs.Laws.Body.{length-body, body_front}
 use Rattle.image_bytes.specs.Layout.{body_length, image_length, sealed}
 use Rattle.image_bytes.specs.Seal.{space_refusal, image_written, Written}
 use Rattle.image_bytes.specs.Find.{found}
-use Rattle.image_bytes.proofs.Laws.Copy.{copied, copied_front}
 use Rattle.image_bytes.proofs.Laws.Layout.{length-sealed}
 use Rattle.image_bytes.proofs.Laws.Seal.{take-image_written}
-use Rattle.editions.specs.Read.{image_refusal, BodyRead}
-use Rattle.editions.proofs.Laws.Read.{read_long}
+use Rattle.editions.specs.Read.{BodyRead}
 use Rattle.image.specs.Image.{image}
 use Rattle.image.specs.Load.{load_refusal, state_from}
 use Rattle.image.specs.Restored.{Restored}
@@ -61,37 +63,34 @@ load-refused version table s bytes e stands =
       kept = λ k. k;
     }
 
-module _ (version : ℕ) (table : List ℕ) {s bytes space read' : List ℕ} {n : ℕ} (read : BodyRead bytes space n read') where
+module _ (version : ℕ) (table : List ℕ) {s bytes : List ℕ} where
   -- no image was read
-  pub load_unread : (n ≡ 0 → ⊥) → Loaded version table s bytes n s
-  load_unread some =
-      load-refused version table s bytes (load_refusal-image table bytes (λ z. some (read.refusal ∙ z)) ∙ sym read.refusal) some
+  pub load_unread : {x : Refusal} → BodyRead bytes (Err x) → Loaded version table s bytes (number x) s
+  load_unread {x} read =
+      load-refused version table s bytes (load_refusal-image table bytes (λ z. no_zero x (read.refusal ∙ z)) ∙ sym read.refusal) (no_zero x)
 
   -- the table was refused, or the body is copied over the start
-  module _ {k : ℕ} {t : List ℕ} (none : n ≡ 0) (start : TableStarted 0 version table s k t) where
-    zero : image_refusal bytes ≡ 0
-    zero = sym read.refusal ∙ none
+  module _ {read' t : List ℕ} (read : BodyRead bytes (Ok read')) where
+    pub load-other-table : (x : Refusal) → TableStarted 0 version table s (number x) t → Loaded version table s bytes (number x) t
+    load-other-table x start =
+        let same : t ≡ s = start.refused (λ z. no_zero x (start.refusal ∙ z)) in
+        subst (Loaded version table s bytes (number x)) (sym same)
+        (load-refused version table s bytes (load_refusal-table table bytes (sym read.refusal) ∙ sym start.refusal) (no_zero x))
 
-    pub load-other-table : (k ≡ 0 → ⊥) → Loaded version table s bytes k t
-    load-other-table some =
-        let same : t ≡ s = start.refused (λ z. some (start.refusal ∙ z)) in
-        subst (Loaded version table s bytes k) (sym same)
-        (load-refused version table s bytes (load_refusal-table table bytes zero ∙ sym start.refusal) some)
-
-    pub load_stored : {s' : List ℕ} → version < 256 → Below 256 table → Below 256 bytes → k ≡ 0 → s' ≡ copied read' t → Loaded version table s bytes 0 s'
+    pub load_stored : {ys : List ℕ} → TableStarted 0 version table s 0 t → version < 256 → Below 256 table → Below 256 bytes → ys ≡ read' →
+        Loaded version table s bytes 0 (ys ++ drop 64 t)
     unfolding fresh state_of
-    load_stored {s'} low entries bound passed stored =
+    load_stored {ys} start low entries bound copied =
         let x = settings_of 0 version table in
-        let passes : table_refusal table ≡ 0 = sym start.refusal ∙ passed in
-        let z : load_refusal table bytes ≡ 0 = load_refusal-table table bytes zero ∙ passes in
-        let long : length read' ≡ 64 = read_long bytes read none in
+        let passes : table_refusal table ≡ 0 = sym start.refusal in
+        let z : load_refusal table bytes ≡ 0 = load_refusal-table table bytes (sym read.refusal) ∙ passes in
         let begun = start.started passes in
         let behind : drop 64 t ≡ given version table =
         ap (drop 64) begun.bytes ∙ drop_at (body (fresh x)) (given version table) 64 (length-body (fresh x) (omega arith) refl) in
-        let same : s' ≡ state_from version table (found bytes) =
-        stored ∙ copied_front read' t ∙ ap (λ (j : ℕ). read' ++ drop j t) long ∙ ap₂ (λ (a b : List ℕ). a ++ b) (read.taken zero) behind in
-        let is_state : IsState s' = subst IsState (sym same) (found-is_state version table low entries bytes z) in
-        let restored : Restored (view s') bytes = subst (λ (l : List ℕ). Restored (view l) bytes) (sym same) (accepted-restored version table low entries bytes z bound) in
+        let same : (ys ++ drop 64 t) ≡ state_from version table (found bytes) = ap₂ (λ (a b : List ℕ). a ++ b) (copied ∙ read.body) behind in
+        let is_state : IsState (ys ++ drop 64 t) = subst IsState (sym same) (found-is_state version table low entries bytes z) in
+        let restored : Restored (view (ys ++ drop 64 t)) bytes =
+        subst (λ (l : List ℕ). Restored (view l) bytes) (sym same) (accepted-restored version table low entries bytes z bound) in
         record {
           refusal = sym z;
           refused = λ stands. absurd (stands z);

@@ -5,9 +5,12 @@ use mathlib.Core.Bool.{Bool, true, false, not}
 use mathlib.Core.List.{List, ◌++◌}
 use Prim.Native.Nat.{ℕ, zero, suc, ◌+◌, ◌-◌, ◌/◌, ◌%◌, ◌≤◌, ◌<◌}
 use native.Mathlib.Omega.{arith}
-use lib.ListN.{length, get_or, take, drop, length-take, length-drop}
+use lib.ListN.{length, get_or, take, drop, replicate, length-take, length-drop}
 use lib.Seq.{take-append_seam, drop-append_seam, get_or-drop}
 use lib.Dec.{eqb}
+use Rattle.std.specs.List.{list_all}
+use Rattle.std.proofs.lemmas.List.Sums.{AllPass-from_list_all, list_all-from_AllPass}
+use Rattle.std.proofs.lemmas.Grind.{get_or_default_zero}
 use borrow.Author.Tests.{ne_eqb, eqb-true, eqb-false, not-true}
 use Rattle.translation.specs.Bits.{has, nibble}
 use Rattle.translation.specs.KeyTable.{table_refusal}
@@ -22,8 +25,8 @@ use Rattle.state.proofs.Laws.Flags.{flags_full, flags-mouse, flags-locked, flags
 use Rattle.state.proofs.Laws.Code.{code_long, code-byte}
 use Rattle.state.proofs.Laws.View.{ram_of}
 use Rattle.state.proofs.Laws.Body.{tidied, code_part, ram-part, byte-part, Tidy}
-use Rattle.body_rules.specs.Rules.{every, is_zero, nonzero}
-use Rattle.body_rules.proofs.Laws.Rules.{CommonRules, AddedRules, Rules, every-at, every_all, every_zeros}
+use Rattle.body_rules.specs.Rules.{is_zero, nonzero}
+use Rattle.body_rules.proofs.Laws.Rules.{CommonRules, AddedRules, Rules}
 
 -- ---- the machine of a state that keeps the rules
 -- bytes 60-63
@@ -65,7 +68,7 @@ module _ (s : List ℕ) (long : length s ≡ state_length) (rules : Rules s) whe
             code-byte s k high
             ∙ ap (λ (j : ℕ). get_or code j 0) (sym past)
             ∙ sym (get_or-drop (at s 10) code (k - at s 10) 0)
-            ∙ eqb-true _ 0 (every-at is_zero (drop (at s 10) code) r.after (k - at s 10) shown);
+            ∙ eqb-true _ 0 (AllPass-from_list_all is_zero (drop (at s 10) code) r.after (k - at s 10) 0 shown);
         beyond = added_tidy s more;
       }
 
@@ -111,9 +114,13 @@ module _ (s : List ℕ) (long : length s ≡ state_length) (rules : Rules s) whe
       each : (k : ℕ) → k < length (take (at s 10) code) → 1 ≤ get_or (take (at s 10) code) k 0
       each k h =
           let byte = get_or (take (at s 10) code) k 0 in
-          omega (arith, eqb-false byte 0 (not-true (eqb byte 0) (every-at nonzero (take (at s 10) code) r.code k h)))
+          omega (arith, eqb-false byte 0 (not-true (eqb byte 0) (AllPass-from_list_all nonzero (take (at s 10) code) r.code k 0 h)))
 
 -- ---- the body of a machine that keeps the rules
+list_all-zeros : (n : ℕ) → list_all is_zero (replicate n 0) ≡ true
+list_all-zeros zero = refl
+list_all-zeros (suc n) = list_all-zeros n
+
 module _ (m : Machine) (k : Kept m) where
   common_rules : CommonRules (state_of m)
   unfolding state_of body
@@ -133,18 +140,20 @@ module _ (m : Machine) (k : Kept m) where
         to = k.to;
         no_sent = k.no_sent;
         count = k.code;
-        code = ap (λ (l : List ℕ). every nonzero (take (length c) l)) (code_part m k.code) ∙ ap (every nonzero) (take-append_seam c _) ∙ nonzeros;
+        code = ap (λ (l : List ℕ). list_all nonzero (take (length c) l)) (code_part m k.code) ∙ ap (list_all nonzero) (take-append_seam c _) ∙ nonzeros;
         after =
-            ap (λ (l : List ℕ). every is_zero (drop (length c) l)) (code_part m k.code)
-            ∙ ap (every is_zero) (drop-append_seam c _)
-            ∙ every_zeros (16 - length c);
+            ap (λ (l : List ℕ). list_all is_zero (drop (length c) l)) (code_part m k.code)
+            ∙ ap (list_all is_zero) (drop-append_seam c _)
+            ∙ list_all-zeros (16 - length c);
         locked = λ e. k.locked (sym (flags-locked p) ∙ e);
         unlocked = λ e. k.unlocked (sym (flags-locked p) ∙ e);
         mode = omega (arith, ap (λ (l : List ℕ). get_or l 0 0) (ram-part m k.code k.ram), k.mode_byte);
       }
     where
-      nonzeros : every nonzero m.secret.code ≡ true
-      nonzeros = every_all nonzero m.secret.code (λ j h. ap not (ne_eqb (get_or m.secret.code j 0) 0 (omega (arith, (k.code_bytes j h).0))))
+      nonzeros : list_all nonzero m.secret.code ≡ true
+      nonzeros =
+          list_all-from_AllPass nonzero m.secret.code
+          (λ j d h. ap not (ne_eqb (get_or m.secret.code j d) 0 (omega (arith, (k.code_bytes j h).0, get_or_default_zero m.secret.code j d h))))
 
   abbrev x : Settings
   x = m.plain.settings

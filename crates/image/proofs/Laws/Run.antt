@@ -4,6 +4,9 @@ use mathlib.Core.List.{List, ◌++◌, append_assoc}
 use Prim.Native.Nat.{ℕ, ◌*◌, ◌≤◌, ◌<◌}
 use native.Mathlib.Omega.{arith}
 use lib.ListN.{length, drop}
+use Rattle.refusals.specs.declared.refusal.Refusal.{Refusal}
+use Rattle.refusals.specs.Numbers.{number}
+use Rattle.refusals.proofs.Refused.{no_zero}
 use Rattle.translation.specs.KeyTable.{built_in}
 use Rattle.machine.specs.Settings.{Settings}
 use Rattle.machine.specs.State.{Machine}
@@ -98,43 +101,44 @@ module _ (version : ℕ) (table : List ℕ) {bytes list space room : List ℕ} w
             absurd (stands (e ∙ refusal-load table bytes list space room a b ∙ middle_accepted m es front k v t here));
       }
 
-  -- l is what the checks of the list came to
-  module _ {l : ℕ} (listed : l ≡ list_refusal list space) where
-    pub refused-list : (l ≡ 0 → ⊥) → ImageRun version table bytes list space room l space room
-    refused-list stands = call_refused (listed ∙ sym (refusal_list table bytes list space room (λ z. stands (listed ∙ z)))) stands
+  pub refused-list : (x : Refusal) → number x ≡ list_refusal list space → ImageRun version table bytes list space room (number x) space room
+  refused-list x listed =
+      call_refused (listed ∙ sym (refusal_list table bytes list space room (λ z. no_zero x (listed ∙ z)))) (no_zero x)
 
-    module _ (fits : l ≡ 0) where
-      pub refused-room : length room < image_length → ImageRun version table bytes list space room 9 space room
-      refused-room short =
-          let nine = space_refusal_short image_length room short in
-          call_refused (sym nine ∙ sym (refusal-room table bytes list space room (sym listed ∙ fits) (λ z. omega (arith, z, nine)))) (λ z. omega arith)
+  -- the list passes its checks
+  module _ (listed : 0 ≡ list_refusal list space) where
+    pub refused-room : length room < image_length → ImageRun version table bytes list space room 9 space room
+    refused-room short =
+        let nine = space_refusal_short image_length room short in
+        call_refused (sym nine ∙ sym (refusal-room table bytes list space room (sym listed) (λ z. omega (arith, z, nine)))) (λ z. omega arith)
 
-      -- t is the state after the load, and n what it came to
-      module _ {s t : List ℕ} {n : ℕ} (enough : image_length ≤ length room) (load : Loaded version table s bytes n t) where
-        pub refused-load : (n ≡ 0 → ⊥) → ImageRun version table bytes list space room n space room
-        refused-load stands = call_refused (refusal-loaded list space room (sym listed ∙ fits) enough load) stands
+    -- t is the state after the load, and n what it came to
+    module _ {s t : List ℕ} (enough : image_length ≤ length room) where
+      pub refused-load : (x : Refusal) → Loaded version table s bytes (number x) t → ImageRun version table bytes list space room (number x) space room
+      refused-load x load = call_refused (refusal-loaded list space room (sym listed) enough load) (no_zero x)
 
-        -- u is the state after the run
-        pub loaded-ran-saved : {u space' room' : List ℕ} {l' n' : ℕ} → n ≡ 0 → ListRun t list space l' u space' → Saved u room n' room' →
-            ImageRun version table bytes list space room 0 space' room'
-        loaded-ran-saved {u} {space'} {room'} good run save =
-            let from-image = resumed version table bytes in
-            let zero : list_refusal list space ≡ 0 = sym listed ∙ fits in
-            let passed : run_refusal table bytes list space room ≡ 0 = sym (refusal-loaded list space room zero enough load) ∙ good in
-            let stored = load.stored (sym load.refusal ∙ good) in
-            let from : view t ≡ from-image = ap view stored.0 in
-            let whole : IsState u = run.bytes zero stored.1 ∙ ap state_of (sym (run.machine zero)) in
-            let answered : space' ≡ filled from-image (events list) space =
-            run.buffer zero ∙ ap (λ (m : Machine). filled m (events list) space) from in
-            let imaged : room' ≡ saved (after from-image (events list)) room =
-            save.machine whole ∙ ap (λ (m : Machine). saved m room) (run.machine zero ∙ ap (λ (m : Machine). after m (events list)) from) in
-            record {
-              refusal = sym passed;
-              refused = λ stands. absurd (stands passed);
-              answered = λ _. answered;
-              imaged = λ _. imaged;
-              split = λ m es front k v t here _ _. (refl, split-run m es front k v t here (events list) answered imaged);
-            }
+      -- u is the state after the run
+      pub loaded-ran-saved : {u space' room' : List ℕ} {l n : ℕ} → Loaded version table s bytes 0 t → ListRun t list space l u space' → Saved u room n room' →
+          ImageRun version table bytes list space room n space' room'
+      loaded-ran-saved {u} {space'} {room'} {n = n} load run save =
+          let from-image = resumed version table bytes in
+          let zero : list_refusal list space ≡ 0 = sym listed in
+          let good : n ≡ 0 = save.refusal ∙ space_refusal-room image_length room enough in
+          let passed : run_refusal table bytes list space room ≡ 0 = sym (refusal-loaded list space room zero enough load) in
+          let stored = load.stored (sym load.refusal) in
+          let from : view t ≡ from-image = ap view stored.0 in
+          let whole : IsState u = run.bytes zero stored.1 ∙ ap state_of (sym (run.machine zero)) in
+          let answered : space' ≡ filled from-image (events list) space =
+          run.buffer zero ∙ ap (λ (m : Machine). filled m (events list) space) from in
+          let imaged : room' ≡ saved (after from-image (events list)) room =
+          save.machine whole ∙ ap (λ (m : Machine). saved m room) (run.machine zero ∙ ap (λ (m : Machine). after m (events list)) from) in
+          record {
+            refusal = good ∙ sym passed;
+            refused = λ stands. absurd (stands passed);
+            answered = λ _. answered;
+            imaged = λ _. imaged;
+            split = λ m es front k v t here _ _. (good, split-run m es front k v t here (events list) answered imaged);
+          }
 
 -- with the built-in table
 pub ran_built_in : {version : ℕ} {table bytes list space room space' room' : List ℕ} {n : ℕ} → table ≡ built_in →

@@ -1,20 +1,17 @@
 -- Laws of the definitions in specs/Find. Assumes nothing.
-use Rattle.std.proofs.Common.{◌≡◌, ℕ, ◌+◌, ◌-◌, ◌<◌, ◌≤◌, Bool, true, false, ◌&&◌, eqb, leb, List, length, get_or, take, drop, sym, refl, ap, ◌∙◌, ap₂, add-zero, arith, get_or-drop, eq-eqb, ne_eqb, eqb-true, le-leb, leb-true}
-use borrow.Author.Tests.{lt-leb, eqb-false}
-use Rattle.translation.specs.Bits.{word}
+use Rattle.std.proofs.Common.{◌≡◌, ℕ, ◌+◌, ◌-◌, ◌≤◌, Bool, true, false, ◌&&◌, eqb, leb, List, length, take, drop, sym, refl, ap, ◌∙◌, ap₂, arith, eq-eqb, ne_eqb, eqb-true, le-leb, leb-true}
+use borrow.Author.Tests.{eqb-false}
 use Rattle.image_bytes.specs.Sum.{word_sum}
+use Rattle.image_bytes.specs.declared.edition.Edition.{Edition}
+use Rattle.image_bytes.specs.declared.edition.Edition.TheVariants.{First, Second}
+use Rattle.image_bytes.specs.Edition.{number, size}
 use Rattle.image_bytes.specs.Layout.{first_length, body_length}
 use Rattle.image_bytes.specs.Find.{trailer_of, body_of, distance_of, sum_of, edition_of, marked, ends, body_size, found, body_start, further, BodyFound}
-use Rattle.translation.proofs.Tests.{split, and_true, and_passed, and_failed, and_both, cond_true, cond_false}
-use Rattle.translation.proofs.Lists.{length_part}
+use Rattle.translation.proofs.Tests.{split, and_true, and_passed, and_both, cond_true, cond_false}
+use Rattle.translation.proofs.Lists.{take_rest, length_part}
+use Rattle.std.proofs.lemmas.Slice.{between_is}
 
--- ---- trailer_of, body_of
-pub at-trailer : (bytes : List ℕ) (k : ℕ) → get_or (trailer_of bytes) k 0 ≡ get_or bytes (length bytes - 8 + k) 0
-at-trailer bytes k = get_or-drop (length bytes - 8) bytes k 0
-
-pub at-trailer-first : (bytes : List ℕ) → get_or (trailer_of bytes) 0 0 ≡ get_or bytes (length bytes - 8) 0
-at-trailer-first bytes = at-trailer bytes 0 ∙ ap (λ (k : ℕ). get_or bytes k 0) (add-zero (length bytes - 8))
-
+-- ---- body_of
 -- the body as a part of the bytes, from its start to the trailer
 pub body_of_part : (n : ℕ) (bytes : List ℕ) → n + 8 ≤ length bytes →
     take (length bytes - 8 - (length bytes - 8 - n)) (drop (length bytes - 8 - n) bytes) ≡ body_of n bytes
@@ -23,27 +20,36 @@ body_of_part n bytes h =
     let start : length bytes - 8 - n ≡ length bytes - (n + 8) = omega arith in
     ap₂ (λ (i j : ℕ). take i (drop j bytes)) size start
 
+-- and the last n bytes of what stands before the trailer
+body_of_front : (n : ℕ) (bytes front : List ℕ) → front ≡ take (length bytes - 8) bytes → length front + 8 ≡ length bytes → n ≤ length front →
+    take (length front - (length front - n)) (drop (length front - n) front) ≡ body_of n bytes
+body_of_front n bytes front before long h =
+    let start : length front - n ≡ length bytes - 8 - n = omega arith in
+    take_rest (length front - n) front
+    ∙ ap₂ (λ (i : ℕ) (l : List ℕ). drop i l) start before
+    ∙ sym (between_is bytes (length bytes - 8 - n) (length bytes - 8))
+    ∙ body_of_part n bytes (omega arith)
+
 pub length-body_of : (n : ℕ) (bytes : List ℕ) → n + 8 ≤ length bytes → length (body_of n bytes) ≡ n
 length-body_of n bytes h = length_part (length bytes - (n + 8)) n bytes (omega arith)
 
 -- ---- ends
-pub ends_short : (edition n : ℕ) (bytes : List ℕ) → length bytes < n + 8 → ends edition n bytes ≡ false
+-- the tests of a trailer and of what stands before it
+pub ends_tests : (edition n : ℕ) (bytes front trailer : List ℕ) (mark : Bool) (number distance stored sum : ℕ) →
+    front ≡ take (length bytes - 8) bytes → trailer ≡ trailer_of bytes → length front + 8 ≡ length bytes → n ≤ length front →
+    mark ≡ marked trailer →
+    number ≡ edition →
+    distance ≡ distance_of trailer →
+    stored ≡ sum_of trailer →
+    sum ≡ word_sum (take (length front - (length front - n)) (drop (length front - n) front)) →
+    (mark && (eqb (edition_of trailer) number && (eqb distance n && eqb stored sum))) ≡ ends edition n bytes
 unfolding ends
-ends_short edition n bytes h = and_failed _ _ (lt-leb (n + 8) (length bytes) h)
-
--- the tests of a trailer, each on the bytes where they stand
-pub ends_tests : (edition n : ℕ) (bytes : List ℕ) (mark : Bool) (distance stored total : ℕ) → n + 8 ≤ length bytes →
-    mark ≡ marked (trailer_of bytes) →
-    distance ≡ word (get_or bytes (length bytes - 8) 0) (get_or bytes (length bytes - 8 + 1) 0) →
-    stored ≡ word (get_or bytes (length bytes - 8 + 2) 0) (get_or bytes (length bytes - 8 + 3) 0) →
-    total ≡ word_sum (body_of n bytes) →
-    (mark && (eqb (get_or bytes (length bytes - 8 + 4) 0) edition && (eqb distance n && eqb stored total))) ≡ ends edition n bytes
-unfolding ends
-ends_tests edition n bytes mark distance stored total h m d s t =
-    let d' : distance ≡ distance_of (trailer_of bytes) = d ∙ sym (ap₂ word (at-trailer-first bytes) (at-trailer bytes 1)) in
-    let s' : stored ≡ sum_of (trailer_of bytes) = s ∙ sym (ap₂ word (at-trailer bytes 2) (at-trailer bytes 3)) in
-    ap₂ ◌&&◌ m (ap₂ ◌&&◌ (ap (λ (x : ℕ). eqb x edition) (sym (at-trailer bytes 4))) (ap₂ ◌&&◌ (ap (λ (x : ℕ). eqb x n) d') (ap₂ eqb s' t)))
-    ∙ sym (and_passed _ _ (le-leb (n + 8) (length bytes) h))
+ends_tests edition n bytes front trailer mark number distance stored sum before end long room m e d s t =
+    ap₂ ◌&&◌ (m ∙ ap marked end)
+    (ap₂ ◌&&◌ (ap₂ eqb (ap edition_of end) e)
+    (ap₂ ◌&&◌ (ap (λ (x : ℕ). eqb x n) (d ∙ ap distance_of end))
+    (ap₂ eqb (s ∙ ap sum_of end) (t ∙ ap word_sum (body_of_front n bytes front before long room)))))
+    ∙ sym (and_passed _ _ (le-leb (n + 8) (length bytes) (omega arith)))
 
 -- what an image that passes check 10 holds
 pub record Sealed (edition n : ℕ) (bytes : List ℕ) : Type 0 where
@@ -75,10 +81,6 @@ module _ (edition n : ℕ) (bytes : List ℕ) where
   sealed-ends s =
       and_both _ _ (le-leb _ _ s.room)
       (and_both _ _ s.mark (and_both _ _ (eq-eqb _ _ s.number) (and_both _ _ (eq-eqb _ _ s.distance) (eq-eqb _ _ s.total))))
-
-  -- the distance where it stands in the bytes
-  pub sealed_distance : Sealed edition n bytes → word (get_or bytes (length bytes - 8) 0) (get_or bytes (length bytes - 8 + 1) 0) ≡ n
-  sealed_distance s = sym (ap₂ word (at-trailer-first bytes) (at-trailer bytes 1)) ∙ s.distance
 
 -- ---- body_size
 -- an image of either edition
@@ -162,14 +164,27 @@ body_start_some : (bytes : List ℕ) → (body_size bytes ≡ 0 → ⊥) → bod
 unfolding body_start
 body_start_some bytes some = cond_false _ _ _ (ne_eqb (body_size bytes) 0 some)
 
--- the trailer points back to it
-pub body_start_pointed : (bytes : List ℕ) (i : Image bytes) {distance : ℕ} → distance ≡ i.size → body_start bytes ≡ length bytes - 8 - distance
-body_start_pointed bytes i back =
-    body_start_some bytes (λ z. omega (arith, z, i.counted, i.least)) ∙ omega (arith, back, i.counted)
+-- an edition that was found
+module _ (bytes : List ℕ) (e : Edition) (found : size e ≡ body_size bytes) where
+  pub sealed_named : Sealed (number e) (size e) bytes
+  sealed_named = named e found
+    where
+      named : (e : Edition) → size e ≡ body_size bytes → Sealed (number e) (size e) bytes
+      named First h = size_1 bytes (sym h)
+      named Second h = size_2 bytes (sym h)
+
+  -- the trailer points back to the start
+  pub body_start_named : body_start bytes ≡ length bytes - 8 - size e
+  body_start_named =
+      body_start_some bytes (λ z. least e (found ∙ z)) ∙ omega (arith, found)
+    where
+      least : (e : Edition) → size e ≡ 0 → ⊥
+      least First z = omega arith
+      least Second z = omega arith
 
 -- a start that was found: the length exactly where check 10 refuses the bytes
 module _ (bytes : List ℕ) {start : ℕ} (here : start ≡ body_start bytes) where
-  pub past_none : start ≡ length bytes → body_size bytes ≡ 0
+  past_none : start ≡ length bytes → body_size bytes ≡ 0
   past_none past =
       split (eqb (body_size bytes) 0) (λ e. eqb-true _ 0 e)
       (λ e.
@@ -181,7 +196,7 @@ module _ (bytes : List ℕ) {start : ℕ} (here : start ≡ body_start bytes) wh
     start-some : body_size bytes ≡ 0 → ⊥
     start-some none = before (here ∙ body_start-none bytes none)
 
-    pub start-room : (start ≡ length bytes - 8 - body_size bytes) × (body_size bytes + 8 ≤ length bytes)
+    start-room : (start ≡ length bytes - 8 - body_size bytes) × (body_size bytes + 8 ≤ length bytes)
     start-room =
         let i = image_of bytes start-some in
         (here ∙ body_start_some bytes start-some ∙ omega arith, omega (arith, i.counted, i.parts.room))

@@ -1,12 +1,11 @@
 -- Laws of the definitions in specs/Seal. Assumes nothing.
-use Rattle.std.proofs.Common.{◌≡◌, ℕ, ◌+◌, ◌-◌, ◌<◌, ◌≤◌, List, ◌++◌, length, take, drop, sym, refl, ap, ◌∙◌, arith, le-ltb, lt-ltb, eq-eqb, ne_eqb}
-use lib.Seq.{take-append_seam}
+use Rattle.std.proofs.Common.{◌≡◌, ℕ, ◌+◌, ◌<◌, ◌≤◌, List, ◌++◌, length, take, drop, sym, refl, ap, ap₂, append_assoc, ◌∙◌, arith, le-ltb, lt-ltb, eq-eqb, ne_eqb}
+use lib.Seq.{take-append_seam, take_at, drop_at, drop-drop}
+use borrow.Rule.Slice.PartMut.{put_mid}
 use Rattle.translation.proofs.Tests.{cond_true, cond_false}
-use Rattle.translation.proofs.Lists.{handed, handed_on}
 use Rattle.image_bytes.specs.Layout.{trailer, sealed}
 use Rattle.image_bytes.specs.Seal.{space_refusal, image_written, Written}
 use Rattle.image_bytes.proofs.Laws.Layout.{length-sealed}
-use Rattle.image_bytes.proofs.Laws.Copy.{copied, copied_front}
 
 -- ---- space_refusal
 module _ (n : ℕ) (space : List ℕ) where
@@ -40,16 +39,18 @@ module _ (image space : List ℕ) where
   pub written_room : {space' : List ℕ} → length image ≤ length space → space' ≡ image ++ drop (length image) space → Written image space 0 space'
   written_room h e = let z = space_refusal-room (length image) space h in record { refusal = sym z; bytes = e ∙ sym (image_written-room z) }
 
--- a body copied to the front of d, and its trailer behind it over the front of the rest, which comes back as ys
-pub sealed_written : (edition : ℕ) (b d : List ℕ) {d₁ ys tail : List ℕ} → length (sealed edition b) ≤ length d →
-    d₁ ≡ copied b d →
-    tail ≡ trailer edition b →
-    ys ≡ copied tail (take (length d₁ - length b) (drop (length b) d₁)) →
-    Written (sealed edition b) d 0 (handed (length b) d₁ ys)
-unfolding sealed trailer
-sealed_written edition b d {d₁} {ys} {tail} enough first t second =
-    let rest = take (length d₁ - length b) (drop (length b) d₁) in
-    let both : handed (length b) d₁ ys ≡ sealed edition b ++ drop (length b + 8) d =
-    handed_on (length b) 8 b (trailer edition b) d d₁ ys refl (first ∙ copied_front b d)
-    (second ∙ copied_front tail rest ∙ ap (λ (x : List ℕ). x ++ drop (length x) rest) t) in
-    written_room (sealed edition b) d enough (both ∙ ap (λ (k : ℕ). sealed edition b ++ drop k d) (sym (length-sealed edition b)))
+-- a body copied to the front of d, and its trailer behind it
+pub sealed_written : (edition : ℕ) (b d : List ℕ) {b' tail tail' : List ℕ} {k : ℕ} → length (sealed edition b) ≤ length d → k ≡ 8 → b' ≡ b →
+    tail ≡ trailer edition b → tail' ≡ tail → Written (sealed edition b) d 0 (put_mid (length b) k (put_mid 0 (length b) d b') tail')
+unfolding sealed
+sealed_written edition b d {b'} {tail} {tail'} {k} enough eight body made after =
+    let n = length b in
+    let t = trailer edition b in
+    let mid : put_mid 0 n d b' ≡ b ++ drop n d = ap (λ (l : List ℕ). l ++ drop n d) body in
+    let rest : drop k (drop n (b ++ drop n d)) ≡ drop (n + 8) d =
+    ap (drop k) (drop_at b (drop n d) n refl) ∙ drop-drop k n d ∙ ap (λ (j : ℕ). drop j d) (omega arith) in
+    let both : put_mid n k (put_mid 0 n d b') tail' ≡ (b ++ t) ++ drop (n + 8) d =
+    ap (λ (l : List ℕ). put_mid n k l tail') mid
+    ∙ ap₂ (λ (x y : List ℕ). x ++ y) (take_at b (drop n d) n refl) (ap₂ (λ (x y : List ℕ). x ++ y) (after ∙ made) rest)
+    ∙ sym (append_assoc b t (drop (n + 8) d)) in
+    written_room (sealed edition b) d enough (both ∙ ap (λ (j : ℕ). sealed edition b ++ drop j d) (sym (length-sealed edition b)))

@@ -1,6 +1,8 @@
 -- Laws of the definitions in specs/Sum. Assumes nothing.
-use Rattle.std.proofs.Common.{◌≡◌, ℕ, suc, ◌+◌, ◌<◌, ◌≤◌, List, [], ◌∷◌, length, get_or, drop, refl, ap, ◌∙◌, add-one, arith, length-drop, drop-cons}
-use native.Mathlib.Numerals.{add-two}
+use Rattle.std.proofs.Common.{◌≡◌, ℕ, suc, ◌+◌, ◌<◌, ◌≤◌, List, [], ◌∷◌, length, refl, ap, arith, zero, ◌/◌, ◌%◌, w16}
+use Rattle.std.specs.Prelude.{fold}
+use Rattle.std.specs.Int.{from_le_bytes}
+use Rattle.std.specs.Simd.{first_chunks}
 use Rattle.translation.specs.Bits.{word}
 use Rattle.image_bytes.specs.Sum.{low_byte, high_byte, words, total, word_sum}
 
@@ -11,19 +13,24 @@ words_short [] h = refl
 words_short (x ∷ []) h = refl
 words_short (x ∷ y ∷ l) h = absurd (omega arith)
 
--- ---- total of the words from byte i on
-pub total_end : (l : List ℕ) (i : ℕ) → length l ≤ i + 1 → total (words (drop i l)) ≡ 0
-unfolding total
-total_end l i h = ap total (words_short (drop i l) (simp length-drop (omega arith)))
+-- ---- the bytes in pairs, added up from a on
+abbrev pub added : ℕ → List ℕ → ℕ
+added a pair = (a + from_le_bytes w16 pair) % 65536
 
-pub total-word : (l : List ℕ) (i : ℕ) → i + 1 < length l →
-    total (words (drop i l)) ≡ word (get_or l i 0) (get_or l (i + 1) 0) + total (words (drop (i + 2) l))
-unfolding total words
-total-word l i h =
-    ap (λ (r : List ℕ). total (words r)) (drop-cons l i 0 (omega arith) ∙ ap (λ (r : List ℕ). get_or l i 0 ∷ r) (drop-cons l (suc i) 0 (omega arith)))
-    ∙ rw (add-one, add-two)
+fold-pairs : (n a : ℕ) (l : List ℕ) → n ≡ length l / 2 → a < 65536 → fold added a (first_chunks 2 n l) ≡ (a + total (words l)) % 65536
+unfolding words total
+fold-pairs zero a l h below = let none : total (words l) ≡ 0 = ap total (words_short l (omega arith)) in omega arith
+fold-pairs (suc n) a [] h below = absurd (omega arith)
+fold-pairs (suc n) a (x ∷ []) h below = absurd (omega arith)
+fold-pairs (suc n) a (x ∷ y ∷ l) h below =
+    let rest = fold-pairs n (added a (x ∷ y ∷ [])) l (omega arith) (omega arith) in
+    omega (arith, rest)
 
 -- ---- word_sum
+pub word_sum-pairs : (l : List ℕ) → fold added 0 (first_chunks 2 (length l / 2) l) ≡ word_sum l
+unfolding word_sum
+word_sum-pairs l = omega (arith, fold-pairs (length l / 2) 0 l refl (omega arith))
+
 pub word_sum_below : (l : List ℕ) → word_sum l < 65536
 unfolding word_sum
 word_sum_below l = omega arith

@@ -75,18 +75,6 @@ pub refusal-kind : (p : Public) (e : Event) → 8 < e.kind → refusal p e ≡ 1
 unfolding refusal
 refusal-kind p e h = simp (lt-ltb 8 e.kind h)
 
-above_4 : (k : ℕ) → (k ≡ 0 → ⊥) → (k ≡ 1 → ⊥) → (k ≡ 2 → ⊥) → (k ≡ 3 → ⊥) → (k ≡ 4 → ⊥) → 4 < k
-above_4 k n0 n1 n2 n3 n4 = omega arith
-
-above_8 : (k : ℕ) → 4 < k → (k ≡ 5 → ⊥) → (k ≡ 6 → ⊥) → (k ≡ 7 → ⊥) → (k ≡ 8 → ⊥) → 8 < k
-above_8 k some n5 n6 n7 n8 = omega arith
-
-pub refusal-unknown : (p : Public) (kind low high : ℕ) → (kind ≡ 0 → ⊥) → (kind ≡ 1 → ⊥) → (kind ≡ 2 → ⊥) → (kind ≡ 3 → ⊥) → (kind ≡ 4 → ⊥) →
-    (kind ≡ 5 → ⊥) → (kind ≡ 6 → ⊥) → (kind ≡ 7 → ⊥) → (kind ≡ 8 → ⊥) →
-    1 ≡ refusal p (event kind low high)
-refusal-unknown p kind low high n0 n1 n2 n3 n4 n5 n6 n7 n8 =
-    sym (refusal-kind p (event kind low high) (above_8 kind (above_4 kind n0 n1 n2 n3 n4) n5 n6 n7 n8))
-
 -- a kind that is known
 pub refusal-at : (p : Public) (kind low high : ℕ) {k n : ℕ} → n ≡ refusal p (event k low high) → kind ≡ k → n ≡ refusal p (event kind low high)
 refusal-at p kind low high number same = rw same number

@@ -1,103 +1,59 @@
 -- Laws of the definitions in specs/Lines. Assumes nothing.
-use Prim.Native.Nat.{ℕ, zero, suc, ◌+◌, ◌*◌, ◌-◌, ◌≤◌}
-use mathlib.Core.Path.{◌≡◌, refl, ap, sym, ◌∙◌}
-use mathlib.Core.List.{List, [], ◌∷◌, ◌++◌, append_assoc}
+use Prim.Native.Nat.{ℕ, zero, suc, ◌*◌, ◌/◌, ◌≤◌}
+use mathlib.Core.Path.{◌≡◌, refl, ap, subst, sym, ◌∙◌}
+use mathlib.Core.List.{List, [], ◌∷◌, ◌++◌, append-nil}
 use native.Mathlib.Omega.{arith}
-use lib.ListN.{length, get_or, take, drop, length-append, length-drop}
-use lib.Seq.{take-append-le, drop-append-le, length-take-le, sets, sets-eq}
+use lib.ListN.{length, set, take, drop, length-append, length-drop, drop_of_length-le}
+use lib.Seq.{take_all, length-take-le}
+use Rattle.std.specs.List.{flat_map}
+use Rattle.std.specs.Simd.{first_chunks}
 use Rattle.printing.specs.Hex.{hex_byte}
-use Rattle.printing.specs.Lines.{spaced, line, lines, field}
-use Rattle.translation.proofs.Lists.{take_rest, handed, handed_on}
-
--- ---- field
-pub length-field : (byte after : ℕ) → length (field byte after) ≡ 3
-unfolding hex_byte
-length-field byte after = refl
-
-pub field_stores : (digits : List ℕ) (byte after : ℕ) (xs : List ℕ) → digits ≡ hex_byte byte → 3 ≤ length xs →
-    sets xs 0 (get_or digits 0 0 ∷ get_or digits 1 0 ∷ after ∷ []) ≡ field byte after ++ drop 3 xs
-unfolding hex_byte
-field_stores digits byte after xs two room =
-    ap (λ (d : List ℕ). sets xs 0 (get_or d 0 0 ∷ get_or d 1 0 ∷ after ∷ [])) two ∙ sets-eq (field byte after) xs 0 room
+use Rattle.printing.specs.Lines.{spaced, line, lines}
+use Rattle.translation.proofs.Lists.{listed, take_listed}
 
 -- ---- line
-pub line-one : (bytes : List ℕ) → length bytes ≡ 1 → line bytes ≡ field (get_or bytes 0 0) 10
-unfolding line spaced
-line-one [] h = absurd (omega arith)
-line-one (b ∷ []) h = refl
-line-one (b ∷ c ∷ rest) h = absurd (omega arith)
+-- a byte and the space after it
+abbrev pub field : ℕ → List ℕ
+field b = hex_byte b ++ 32 ∷ []
 
-pub line_more : (bytes : List ℕ) → 2 ≤ length bytes → line bytes ≡ field (get_or bytes 0 0) 32 ++ line (drop 1 bytes)
-unfolding line spaced
-line_more [] h = absurd (omega arith)
-line_more (b ∷ []) h = absurd (omega arith)
-line_more (b ∷ c ∷ rest) h = simp append_assoc
+-- what holds of nine bytes one by one holds of the list of them
+of_nine : (P : List ℕ → Type 0) (bytes : List ℕ) → length bytes ≡ 9 → P (listed 0 9 bytes) → P bytes
+of_nine P bytes nine holds =
+    let all : listed 0 9 bytes ≡ bytes = sym (take_listed 0 9 bytes (omega (arith, nine))) ∙ take_all 9 bytes (omega (arith, nine)) in
+    subst P all holds
 
-pub length-line : (bytes : List ℕ) → 1 ≤ length bytes → length (line bytes) ≡ 3 * length bytes
-length-line [] h = absurd (omega arith)
-length-line (b ∷ []) h = ap length (line-one (b ∷ []) refl) ∙ length-field b 10
-length-line (b ∷ c ∷ rest) h =
-    let more = length-line (c ∷ rest) (omega arith) in
-    let one = length-field b 32 in
-    ap length (line_more (b ∷ c ∷ rest) (omega arith)) ∙ length-append (field b 32) (line (c ∷ rest)) ∙ omega arith
+length-line : (bytes : List ℕ) → length bytes ≡ 9 → length (line bytes) ≡ 27
+unfolding line spaced hex_byte
+length-line bytes nine = of_nine (λ l. length (line l) ≡ 27) bytes nine refl
+
+-- the space after the last byte gives way to LF
+pub line_of : (bytes space text : List ℕ) (i : ℕ) → length bytes ≡ 9 → length space ≡ 27 → i ≡ 9 →
+    text ≡ flat_map field (take i bytes) ++ drop (3 * i) space → set text 26 10 ≡ line bytes
+unfolding line spaced hex_byte
+line_of bytes space text i nine room all fields =
+    let end : length space ≤ 27 = omega (arith, room) in
+    let none = drop_of_length-le space end in
+    let whole : text ≡ flat_map field bytes = rw (all, take_all 9 bytes (omega (arith, nine)), none, append-nil) at fields in
+    ap (λ (t : List ℕ). set t 26 10) whole ∙ of_nine (λ l. set (flat_map field l) 26 10 ≡ line l) bytes nine refl
 
 -- ---- lines
-pub lines_more : (n : ℕ) (bytes : List ℕ) → (n ≡ 0 → ⊥) → lines n bytes ≡ line (take 9 bytes) ++ lines (n - 1) (drop 9 bytes)
+pub lines_of : (n : ℕ) (bytes : List ℕ) → flat_map line (first_chunks 9 n bytes) ≡ lines n bytes
 unfolding lines
-lines_more zero bytes h = absurd (h refl)
-lines_more (suc n) bytes h =
-    let less : n ≡ suc n - 1 = omega arith in
-    ap (λ (k : ℕ). line (take 9 bytes) ++ lines k (drop 9 bytes)) less
+lines_of zero bytes = refl
+lines_of (suc n) bytes = ap (λ (l : List ℕ). line (take 9 bytes) ++ l) (lines_of n (drop 9 bytes))
+
+-- all nines of some bytes written to the front of a buffer
+pub lines_written : (bytes out out' : List ℕ) (nines : List (List ℕ)) (i : ℕ) → nines ≡ first_chunks 9 (length bytes / 9) bytes →
+    length nines ≡ length bytes / 9 → i ≡ length nines → out' ≡ flat_map line (take i nines) ++ drop (27 * i) out →
+    out' ≡ lines (length bytes / 9) bytes ++ drop (27 * (length bytes / 9)) out
+lines_written bytes out out' nines i cut many all written =
+    rw (all, take_all (length nines) nines (omega arith), many, cut, lines_of (length bytes / 9) bytes) at written
 
 pub length-lines : (n : ℕ) (bytes : List ℕ) → 9 * n ≤ length bytes → length (lines n bytes) ≡ 27 * n
 unfolding lines
 length-lines zero bytes h = refl
 length-lines (suc n) bytes h =
     let nine : length (take 9 bytes) ≡ 9 = length-take-le 9 bytes (omega arith) in
-    let one = length-line (take 9 bytes) (omega arith) in
+    let one = length-line (take 9 bytes) nine in
     let more = length-lines n (drop 9 bytes) (simp length-drop (omega arith)) in
     length-append (line (take 9 bytes)) (lines n (drop 9 bytes)) ∙ omega arith
-
--- bytes past the last line do not count
-pub lines-append : (n : ℕ) (bytes past : List ℕ) → 9 * n ≤ length bytes → lines n (bytes ++ past) ≡ lines n bytes
-unfolding lines
-lines-append zero bytes past h = refl
-lines-append (suc n) bytes past h =
-    let nine : 9 ≤ length bytes = omega arith in
-    let more = lines-append n (drop 9 bytes) past (simp length-drop (omega arith)) in
-    rw (take-append-le 9 bytes past nine, drop-append-le 9 bytes past nine, more)
-
--- ---- a line, and a run of lines, written to the front of a buffer whose rest was handed on
-pub one_line_written : (bytes out out' : List ℕ) → length bytes ≡ 1 → out' ≡ field (get_or bytes 0 0) 10 ++ drop 3 out →
-    out' ≡ line bytes ++ drop (3 * length bytes) out
-one_line_written bytes out out' one front = rw (one, line-one bytes one) front
-
-pub line_handed_on : (bytes out mid ys : List ℕ) → 1 ≤ length bytes → (length bytes ≡ 1 → ⊥) → mid ≡ field (get_or bytes 0 0) 32 ++ drop 3 out →
-    let rest = take (length bytes - 1) (drop 1 bytes) in
-    ys ≡ line rest ++ drop (3 * length rest) (take (length mid - 3) (drop 3 mid)) →
-    handed 3 mid ys ≡ line bytes ++ drop (3 * length bytes) out
-line_handed_on bytes out mid ys some more front lent =
-    let byte = get_or bytes 0 0 in
-    let rest = rw (take_rest 1 bytes) at lent in
-    let far : 3 + 3 * length (drop 1 bytes) ≡ 3 * length bytes = simp length-drop (omega arith) in
-    handed_on 3 (3 * length (drop 1 bytes)) (field byte 32) (line (drop 1 bytes)) out mid ys (length-field byte 32) front rest
-    ∙ ap (λ (k : ℕ). (field byte 32 ++ line (drop 1 bytes)) ++ drop k out) far
-    ∙ ap (λ (z : List ℕ). z ++ drop (3 * length bytes) out) (sym (line_more bytes (omega (arith, more))))
-
-pub lines_written : (n : ℕ) (bytes out : List ℕ) → n ≡ 0 → out ≡ lines n bytes ++ drop (27 * n) out
-unfolding lines
-lines_written n bytes out none = rw none refl
-
-pub lines_handed_on : (n : ℕ) (bytes out mid ys : List ℕ) → (n ≡ 0 → ⊥) → 9 * n ≤ length bytes →
-    mid ≡ line (take 9 bytes) ++ drop (3 * length (take 9 bytes)) out →
-    ys ≡ lines (n - 1) (take (length bytes - 9) (drop 9 bytes)) ++ drop (27 * (n - 1)) (take (length mid - 27) (drop 27 mid)) →
-    handed 27 mid ys ≡ lines n bytes ++ drop (27 * n) out
-lines_handed_on n bytes out mid ys some enough front lent =
-    let nine : length (take 9 bytes) ≡ 9 = length-take-le 9 bytes (omega (arith, some)) in
-    let long : length (line (take 9 bytes)) ≡ 27 = length-line (take 9 bytes) (omega arith) ∙ ap (λ (k : ℕ). 3 * k) nine in
-    let front' = rw nine at front in
-    let rest = rw (take_rest 9 bytes) at lent in
-    let far : 27 + 27 * (n - 1) ≡ 27 * n = omega (arith, some) in
-    handed_on 27 (27 * (n - 1)) (line (take 9 bytes)) (lines (n - 1) (drop 9 bytes)) out mid ys long front' rest
-    ∙ ap (λ (k : ℕ). (line (take 9 bytes) ++ lines (n - 1) (drop 9 bytes)) ++ drop k out) far
-    ∙ ap (λ (z : List ℕ). z ++ drop (27 * n) out) (sym (lines_more n bytes some))

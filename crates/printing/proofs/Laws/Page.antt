@@ -1,44 +1,40 @@
 -- Laws of the definitions in specs/Page. Assumes nothing.
 use Prim.Native.Nat.{ℕ, ◌+◌, ◌*◌, ◌/◌, ◌%◌, ◌-◌, ◌≤◌, ◌<◌}
-use mathlib.Core.Path.{◌≡◌, refl, ap, sym, ◌∙◌}
-use mathlib.Core.Bool.{Bool, true, false, cond, not, ◌&&◌, ◌||◌}
+use mathlib.Core.Path.{◌≡◌, refl, ap, subst, sym, ◌∙◌}
+use mathlib.Core.Bool.{true, false, cond, not, ◌||◌, and-false}
 use mathlib.Core.List.{List, [], ◌++◌}
 use native.Mathlib.Omega.{arith}
 use lib.ListN.{length, take, drop, length-append}
+use lib.Seq.{take_at}
 use lib.Dec.{eqb, leb, ltb}
-use borrow.Author.Tests.{le-leb, lt-leb, le-ltb, ltb-false}
+use borrow.Author.Tests.{le-leb, lt-leb}
+use Rattle.std.specs.Prelude.{Some, Result}
+use Rattle.std.specs.Result.{IsErrAnd}
+use Rattle.std.proofs.lemmas.Bool.Decides.{nat_tests}
+use Rattle.refusals.specs.declared.refusal.Refusal.{Refusal}
+use Rattle.refusals.specs.declared.refusal.Refusal.TheVariants as check
+use Rattle.refusals.specs.Numbers.{number, outcome}
+use Rattle.refusals.proofs.Refused.{no_zero, passed_on}
 use Rattle.machine.specs.Settings.{Settings}
 use Rattle.machine.specs.State.{fresh}
 use Rattle.machine.specs.Run.{events, answers, filled, length_refusal, list_refusal}
-use Rattle.machine.proofs.Laws.Cond.{cond_both, or_false}
+use Rattle.machine.proofs.Laws.Cond.{cond_both}
 use Rattle.machine.proofs.Laws.Run.{length-events, length-answers}
 use Rattle.printing.specs.Lines.{lines}
 use Rattle.printing.specs.declared.page.Printout.{Printout}
-use Rattle.printing.specs.Page.{header, refused_text, refused_length, refused, answered, page, over, room, Written, Printed}
+use Rattle.printing.specs.Page.{header, refused_text, refused_length, refused, answered, page, over, room, print_refusal, Written, Paged, Printed}
 use Rattle.translation.proofs.Lists.{handed, handed_on}
+use Rattle.translation.proofs.Tests.{split}
 use Rattle.controller.specs.Promises.{FreshRun}
-use Rattle.printing.proofs.Laws.Lines.{length-lines, lines-append}
+use Rattle.printing.proofs.Laws.Lines.{length-lines}
 
 -- ---- refused_length
-eqb-cond_seven : (t u : Bool) → eqb (cond t 7 (cond u 8 0)) 7 ≡ t
-eqb-cond_seven true u = refl
-eqb-cond_seven false true = refl
-eqb-cond_seven false false = refl
-
-pub refused_length_test : (n : ℕ) → refused_length n ≡ (not (eqb (n % 3) 0) || ltb 21000 n)
+refused_length_test : (n : ℕ) → refused_length n ≡ (not (eqb (n % 3) 0) || ltb 21000 n)
 unfolding refused_length length_refusal
-refused_length_test n = eqb-cond_seven (not (eqb (n % 3) 0) || ltb 21000 n) (ltb 0 (n / 3 * 9))
+refused_length_test n = grind (arith, nat_tests)
 
-pub refused_length_false : (n : ℕ) {is_refused : Bool} → is_refused ≡ refused_length n → is_refused ≡ false → n ≤ 21000
-refused_length_false n same free =
-    ltb-false 21000 n (or_false (not (eqb (n % 3) 0)) (ltb 21000 n) (sym (refused_length_test n) ∙ sym same ∙ free)).1
-
--- with room for the answers check 8 does not stand either
-list_refusal-accepted : (list space : List ℕ) → refused list ≡ false → 9 * (length list / 3) ≤ length space → list_refusal list space ≡ 0
-unfolding length_refusal
-list_refusal-accepted list space a room =
-    let enough : length list / 3 * 9 ≤ length space = omega arith in
-    simp (sym (refused_length_test (length list)) ∙ a, le-ltb _ _ enough)
+refused_length-within : (n : ℕ) → refused_length n ≡ false → n ≤ 21000
+refused_length-within n free = grind (arith, nat_tests, refused_length_test n)
 
 -- ---- answered, page
 pub length-header : length header ≡ 28
@@ -73,10 +69,11 @@ module _ (x : Settings) (list : List ℕ) (a : refused list ≡ true) where
   page-refused = simp a
 
 -- ---- Written
-pub written_all : (bytes out : List ℕ) (r : ℕ) (out' : List ℕ) → length bytes ≤ length out → r ≡ length bytes → out' ≡ over bytes out → Written bytes out r out'
-written_all bytes out r out' fits count text =
+pub written_all : (bytes out text : List ℕ) → length bytes ≤ length out → text ≡ bytes →
+    Written bytes out (length bytes) (text ++ drop (length bytes) out)
+written_all bytes out text fits same =
     let large = le-leb (length bytes) (length out) fits in
-    record { count = simp large count; text = simp large text }
+    record { count = simp large; text = simp large (ap (λ (t : List ℕ). t ++ drop (length bytes) out) same) }
 
 pub written_none : (bytes out : List ℕ) → length out < length bytes → Written bytes out 0 out
 written_none bytes out short =
@@ -84,10 +81,6 @@ written_none bytes out short =
     record { count = simp small; text = simp small }
 
 -- ---- room
-and_false_right : (t : Bool) → (t && false) ≡ false
-and_false_right true = refl
-and_false_right false = refl
-
 module _ (x : Settings) (list space out : List ℕ) where
   room-refused : refused list ≡ true → room x list space out ≡ leb (length refused_text) (length out)
   unfolding room
@@ -113,77 +106,100 @@ module _ (x : Settings) (list space out : List ℕ) where
   room_short_out : refused list ≡ false → length out < 28 + 27 * (length list / 3) → room x list space out ≡ false
   unfolding room
   room_short_out a short =
-      simp (length-page x list a, lt-leb (28 + 27 * (length list / 3)) (length out) short, and_false_right)
+      simp (length-page x list a, lt-leb (28 + 27 * (length list / 3)) (length out) short, and-false)
+
+-- ---- list_refusal
+list_refusal-refused : (list space : List ℕ) → refused list ≡ true → list_refusal list space ≡ 7
+unfolding length_refusal
+list_refusal-refused list space a = grind (arith, nat_tests, refused_length_test (length list))
+
+list_refusal-free : (list space : List ℕ) → refused list ≡ false → list_refusal list space ≡ cond (ltb (length space) (length list / 3 * 9)) 8 0
+unfolding length_refusal
+list_refusal-free list space a = grind (arith, nat_tests, refused_length_test (length list))
+
+-- a list that no check refuses
+pub none_refuses : (list space : List ℕ) → 0 ≡ list_refusal list space → (refused list ≡ false) × (9 * (length list / 3) ≤ length space)
+none_refuses list space none = grind (arith, nat_tests, list_refusal-refused list space, list_refusal-free list space)
+
+pub none_refuses-within : (list space : List ℕ) → 0 ≡ list_refusal list space → length list ≤ 21000
+none_refuses-within list space none = refused_length-within (length list) (none_refuses list space none).0
+
+-- ---- print_refusal
+module _ (x : Settings) (list space out : List ℕ) where
+  -- by a check of the list and its answers
+  number_refuses : (n : ℕ) → (n ≡ 0 → ⊥) → n ≡ list_refusal list space → n ≡ print_refusal x list space out
+  number_refuses n some number =
+      grind (arith, nat_tests, list_refusal-refused list space, list_refusal-free list space, room_few_answers x list space out)
+
+  pub check_refuses : {T : Type 0} (answer : Result T Refusal) (r : Refusal) → IsErrAnd answer (λ y. y ≡ r) → number r ≡ list_refusal list space →
+      outcome answer ≡ print_refusal x list space out
+  check_refuses answer r is refuses = rw (passed_on answer is) (number_refuses (number r) (no_zero r) refuses)
+
+  -- by the room for the page
+  pub short_refuses : 0 ≡ list_refusal list space → length out < 28 + 27 * (length list / 3) → 8 ≡ print_refusal x list space out
+  short_refuses none short = grind (arith, none_refuses list space, room_short_out x list space out)
+
+  pub room_refuses : 0 ≡ list_refusal list space → 28 + 27 * (length list / 3) ≤ length out → 0 ≡ print_refusal x list space out
+  room_refuses none long = grind (arith, none_refuses list space, room_both x list space out)
+
+  -- what number 7 shows
+  shows_refused : 7 ≡ print_refusal x list space out → refused list ≡ true
+  shows_refused seven = grind arith
 
 -- ---- Printed
-abbrev pub printout : ℕ → ℕ → Printout
-printout number n = record { refusal = number; written = n }
-
-split : {A : Type 0} (b : Bool) → (b ≡ true → A) → (b ≡ false → A) → A
-split true one other = one refl
-split false one other = other refl
-
-module _ (x : Settings) (list space out : List ℕ) {is_refused : Bool} (same : is_refused ≡ refused list) where
-  pub printed_refused : {n : ℕ} {out' : List ℕ} → is_refused ≡ true → Written refused_text out n out' → Printed x list space out (printout 7 n) space out'
-  printed_refused stands w =
-      let a = sym same ∙ stands in
+module _ (x : Settings) (list space out : List ℕ) (space' mid : List ℕ) where
+  -- the text of a refused list
+  pub printed_refused : (r : Refusal) (n : ℕ) (out' : List ℕ) → r ≡ check.ListLength → number r ≡ print_refusal x list space out →
+      (space' ≡ space) × (mid ≡ out) → Written refused_text mid n out' →
+      Printed x list space out (record { refusal = Some check.ListLength; written = n }) space' out'
+  printed_refused r n out' is refuses same w =
+      let seven : 7 ≡ print_refusal x list space out = ap number (sym is) ∙ refuses in
+      let a = shows_refused x list space out seven in
+      let few = room-refused x list space out a in
+      let w' = subst (λ (o : List ℕ). Written refused_text o n out') same.1 w in
       record {
-        refusal = simp a;
-        count = simp (room-refused x list space out a, page-refused x list a) w.count;
-        answers = rw (answered-refused x list a) (sym (cond_both (λ (xs : List ℕ). xs ≡ space) (room x list space out) refl refl));
-        text = simp (room-refused x list space out a, page-refused x list a) w.text;
-      }
-
-  printed_none : is_refused ≡ false → room x list space out ≡ false → Printed x list space out (printout 8 0) space out
-  printed_none free small = record { refusal = simp (sym same ∙ free, small); count = simp small; answers = simp small; text = simp small }
-
-  pub printed_few : is_refused ≡ false → length space < 9 * (length list / 3) → Printed x list space out (printout 8 0) space out
-  printed_few free few = printed_none free (room_few_answers x list space out (sym same ∙ free) few)
-
-  pub printed_short : is_refused ≡ false → length out < 28 + 27 * (length list / 3) → Printed x list space out (printout 8 0) space out
-  printed_short free short = printed_none free (room_short_out x list space out (sym same ∙ free) short)
-
-  pub printed_all : {number n : ℕ} {space' out' : List ℕ} → is_refused ≡ false → 9 * (length list / 3) ≤ length space → 28 + 27 * (length list / 3) ≤ length out →
-      FreshRun x list space space' number →
-      (n ≡ 28 + 27 * (length list / 3)) × (out' ≡ over (header ++ lines (length list / 3) space') out) →
-      Printed x list space out (printout 0 n) space' out'
-  unfolding filled
-  printed_all {space' = space'} free many long ran (count, text) =
-      let a = sym same ∙ free in
-      let large = room_both x list space out a many long in
-      let all = answered-accepted x list a in
-      let nine = length-answered x list a in
-      let bytes : space' ≡ over (answered x list) space =
-      ran.answered (list_refusal-accepted list space a many) ∙ rw (length-events list, ← nine, ← all) refl in
-      let printed : lines (length list / 3) space' ≡ lines (length list / 3) (answered x list) =
-      ap (lines (length list / 3)) bytes ∙ lines-append (length list / 3) (answered x list) (drop (length (answered x list)) space) (omega arith) in
-      record {
-        refusal = simp (a, large);
-        count = simp large (count ∙ sym (length-page x list a));
-        answers = simp large bytes;
-        text =
-            simp large
-            (text ∙ ap (λ (xs : List ℕ). over (header ++ xs) out) printed
-            ∙ ap (λ (xs : List ℕ). over xs out) (sym (page-accepted x list a)));
+        refusal = seven;
+        count = rw (few, page-refused x list a) w'.count;
+        answers = rw (answered-refused x list a, same.0) (sym (cond_both (λ (xs : List ℕ). xs ≡ space) (room x list space out) refl refl));
+        text = rw (few, page-refused x list a) w'.text;
       }
 
 -- the text lies within its buffer
-pub printed_within : {x : Settings} {list space out : List ℕ} {r : Printout} {space' out' : List ℕ} → Printed x list space out r space' out' → r.written ≤ length out'
-printed_within {x} {list} {space} {out} {r} {space'} {out'} p = split (room x list space out)
-    (λ large.
-    let count : r.written ≡ length (page x list) = simp large at p.count in
-    let text : out' ≡ over (page x list) out = simp large at p.text in
-    omega (arith, ap length text ∙ length-append (page x list) (drop (length (page x list)) out)))
-    (λ small.
-    let count : r.written ≡ 0 = simp small at p.count in
-    omega arith)
+pub printed_within : {x : Settings} {list space out : List ℕ} {r : Printout} {space' out' : List ℕ} → Printed x list space out r space' out' →
+    r.written ≤ length out'
+printed_within {x} {list} {space} {out} {r} {space'} {out'} p =
+    let long = length-append (page x list) (drop (length (page x list)) out) in
+    split (room x list space out) (λ large. omega (arith, rw large at p.count, ap length (rw large at p.text), long))
+    (λ small. omega (arith, rw small at p.count))
+
+-- ---- what a run leaves, and the page that is made of it
+pub run_printed : (x : Settings) (list space space' out out' : List ℕ) (number : ℕ) → 0 ≡ list_refusal list space → FreshRun x list space space' number →
+    let cut = take (9 * (length list / 3)) space' in
+    out' ≡ over (header ++ lines (length cut / 9) cut) out →
+    Paged x list space out (28 + 27 * (length list / 3)) space' out'
+unfolding filled
+run_printed x list space space' out out' number none ran text =
+    let a = (none_refuses list space none).0 in
+    let nine = length-answered x list a in
+    let bytes : space' ≡ over (answered x list) space =
+    ran.answered (sym none) ∙ rw (length-events list, ← nine, ← answered-accepted x list a) refl in
+    let cut : take (9 * (length list / 3)) space' ≡ answered x list =
+    ap (take (9 * (length list / 3))) bytes ∙ take_at (answered x list) (drop (length (answered x list)) space) (9 * (length list / 3)) nine in
+    let count : length (answered x list) / 9 ≡ length list / 3 = omega (arith, nine) in
+    record {
+      count = sym (length-page x list a);
+      answers = bytes;
+      text = rw (cut, count, ← page-accepted x list a) at text;
+    }
 
 -- ---- the header at the front, the rest of the buffer handed on for the lines
-pub page_handed_on : (n : ℕ) (bytes out mid ys : List ℕ) → 9 * n ≤ length bytes → mid ≡ header ++ drop 28 out →
+pub page_handed_on : (n : ℕ) (bytes out text ys : List ℕ) → 9 * n ≤ length bytes → text ≡ header →
+    let mid = text ++ drop 28 out in
     ys ≡ lines n bytes ++ drop (27 * n) (take (length mid - 28) (drop 28 mid)) →
     handed 28 mid ys ≡ over (header ++ lines n bytes) out
-page_handed_on n bytes out mid ys enough front lent =
+page_handed_on n bytes out text ys enough front lent =
     let long : 28 + 27 * n ≡ length (header ++ lines n bytes) =
     omega (arith, length-append header (lines n bytes), length-header, length-lines n bytes enough) in
-    handed_on 28 (27 * n) header (lines n bytes) out mid ys length-header front lent
+    let mid = text ++ drop 28 out in
+    handed_on 28 (27 * n) header (lines n bytes) out mid ys length-header (ap (λ (t : List ℕ). t ++ drop 28 out) front) lent
     ∙ ap (λ (k : ℕ). (header ++ lines n bytes) ++ drop k out) long

@@ -4,6 +4,7 @@ use mathlib.Core.Bool.{Bool, false}
 use mathlib.Core.List.{List, [], ◌∷◌, ◌++◌, append_assoc, append-nil}
 use Prim.Native.Nat.{ℕ, zero, suc, ◌+◌, ◌-◌, ◌≤◌, ◌<◌}
 use native.Mathlib.Omega.{arith}
+use borrow.Rule.Slice.PartMut.{put_mid}
 use lib.ListN.{length, get_or, take, drop, set, replicate, length-append, length-replicate, length-take, length-drop, drop_of_length-le, take-append-drop}
 use lib.Seq.{take_at, drop_at, drop-drop, take-append_seam, drop-append_seam, take-add, drop-cons, get_or-take, get_or-drop}
 use Rattle.translation.specs.Bits.{has, nibble}
@@ -173,30 +174,29 @@ module _ (m : Machine) (short : length m.secret.code ≤ 16) where
 
 -- ---- the key table in its place
 -- 256 bytes copied over the last of a state, as the copy gives its part back
-pub table-put : (s t : List ℕ) {ys : List ℕ} → length s ≡ state_length → length t ≡ 256 → ys ≡ t ++ drop (length t) (take 256 (drop 65 s)) →
+pub table-put : (s t : List ℕ) {ys : List ℕ} → length s ≡ state_length → ys ≡ t →
     take 65 s ++ (ys ++ drop 256 (drop 65 s)) ≡ take 65 s ++ t
-table-put s t {ys} long whole copied =
+table-put s t {ys} long copied =
     let none : drop 256 (drop 65 s) ≡ [] = drop_of_length-le (drop 65 s) {i = 256} (simp length-drop (omega arith)) in
-    let past : drop (length t) (take 256 (drop 65 s)) ≡ [] = drop_of_length-le (take 256 (drop 65 s)) {i = length t} (simp length-take (omega arith)) in
-    let all : ys ≡ t =
-    copied ∙ ap (λ (r : List ℕ). t ++ r) past ∙ append-nil t in
-    ap₂ (λ (x y : List ℕ). take 65 s ++ (x ++ y)) all none ∙ ap (λ (r : List ℕ). take 65 s ++ r) (append-nil t)
+    ap₂ (λ (x y : List ℕ). take 65 s ++ (x ++ y)) copied none ∙ ap (λ (r : List ℕ). take 65 s ++ r) (append-nil t)
 
 -- ---- fresh
 -- the bytes that a start stores
+abbrev pub stored : ℕ → ℕ → List ℕ
+stored options version = set (set (set (set (set (set (set (replicate 321 0) 2 0xFF) 3 3) 28 0x70) 60 options) 61 0x3F) 62 3) 64 version
+
 abbrev pub started : ℕ → ℕ → List ℕ → List ℕ
-started options version table =
-    take 65 (set (set (set (set (set (set (set (replicate 321 0) 2 0xFF) 3 3) 28 0x70) 60 options) 61 0x3F) 62 3) 64 version) ++ table
+started options version table = take 65 (stored options version) ++ table
 
 started-state : (x : Settings) → started (options_of x false) x.version x.table ≡ state_of (fresh x)
 unfolding state_of body fresh nibble
 started-state x = refl
 
-pub fresh-started : (x : Settings) {options : ℕ} {s : List ℕ} → options ≡ options_of x false → s ≡ started options x.version x.table →
-    (s ≡ state_of (fresh x)) × (view s ≡ fresh x)
+pub fresh-started : (x : Settings) {options : ℕ} {ys : List ℕ} → options ≡ options_of x false → ys ≡ x.table →
+    let s = put_mid 65 256 (stored options x.version) ys in (s ≡ state_of (fresh x)) × (view s ≡ fresh x)
 unfolding fresh
-fresh-started x same stored =
-    let bytes = stored ∙ ap (λ (n : ℕ). started n x.version x.table) same ∙ started-state x in
+fresh-started x {options} same copied =
+    let bytes = table-put (stored options x.version) x.table refl copied ∙ ap (λ (n : ℕ). started n x.version x.table) same ∙ started-state x in
     (bytes, ap view bytes ∙ view-state (fresh x) (omega arith) refl)
 
 -- ---- what stands for nothing is 0

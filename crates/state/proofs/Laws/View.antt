@@ -4,14 +4,14 @@ use mathlib.Core.Bool.{Bool, false}
 use mathlib.Core.List.{List, [], ◌∷◌, ◌++◌}
 use Prim.Native.Nat.{ℕ, zero, suc, ◌+◌, ◌-◌, ◌≤◌, ◌<◌}
 use native.Mathlib.Omega.{arith}
-use lib.ListN.{length, take, drop, get_or, set, length-take, length-set}
+use lib.ListN.{replicate, length, take, drop, get_or, set, length-take, length-set}
+use borrow.Rule.Slice.PartMut.{put_mid}
 use lib.Seq.{take-set-le, take-set-lt, drop-set-lt, drop-set-add, drop-cons, set_out, get_or-set_other}
 use Rattle.state.proofs.Laws.Code.{code-append, code_long}
 use Rattle.translation.proofs.Lists.{listed, front}
 use Rattle.translation.specs.Bits.{has}
 use Rattle.machine.specs.Settings.{Settings, settings_of}
 use Rattle.machine.specs.State.{Public, Machine, lift, with_output, with_errors, with_host, with_ram}
-use Rattle.machine.specs.Lines.{with_mode}
 use Rattle.machine.specs.DataPort.{settled, send, low_latched, high_latched, dropped, appended}
 use Rattle.machine.specs.SecondSet.{input_latched, permitted}
 use Rattle.machine.specs.Commands.{overlaid}
@@ -80,6 +80,12 @@ set-sending s long to v = front 12 (λ s. view (set (set s 8 to) 9 v) ≡ lift (
 abbrev pub cleared : ℕ → List ℕ → List ℕ
 cleared zero s = s
 cleared (suc n) s = set (cleared n s) (12 + n) 0
+
+-- sixteen zeros in their place
+pub filled-cleared : (s : List ℕ) {ys : List ℕ} → length s ≡ state_length → ys ≡ replicate (length (take 16 (drop 12 s))) 0 → put_mid 12 16 s ys ≡ cleared 16 s
+filled-cleared s {ys} long filled =
+    let sixteen : length (take 16 (drop 12 s)) ≡ 16 = front 28 (λ s. length (take 16 (drop 12 s)) ≡ 16) s (omega arith) refl in
+    ap (put_mid 12 16 s) (filled ∙ ap (λ (n : ℕ). replicate n 0) sixteen) ∙ front 28 (λ s. put_mid 12 16 s (replicate 16 0) ≡ cleared 16 s) s (omega arith) refl
 
 -- one more
 pub cleared_next : (s₀ s : List ℕ) (i : ℕ) → 12 ≤ i → s ≡ cleared (i - 12) s₀ → set s i 0 ≡ cleared (i + 1 - 12) s₀
@@ -163,9 +169,6 @@ set-cell s long k v h =
     ∙ take-set-lt 32 (drop 28 s) k v h ∙ ap (λ (xs : List ℕ). set xs k v) (sym (ram_of s long))
     in
     ap (λ (xs : List ℕ). lift (λ p. with_ram p xs) (view (set s (28 + k) v))) ram ∙ set_beside s long k v h cells
-
-pub set-mode : (s : List ℕ) → length s ≡ state_length → (v : ℕ) → view (set s 28 v) ≡ lift (with_mode v) (view s)
-set-mode s long v = set-cell s long 0 v (omega arith)
 
 -- one more byte of the lock code
 pub set-appended : (s : List ℕ) → length s ≡ state_length → (v : ℕ) → get_or s 10 0 < 16 →

@@ -1,66 +1,22 @@
--- The cases of a byte that was sent and of a report, and that what is given are bytes. Assumes nothing.
+-- What a byte that was sent and a report give are bytes. Assumes nothing.
 use Prim.Native.Nat.{ℕ, zero, suc, ◌<◌}
-use mathlib.Core.Path.{◌≡◌, refl, sym, ap, subst, ◌∙◌}
+use mathlib.Core.Path.{◌≡◌, sym, ap, subst}
 use mathlib.Core.Bool.{Bool, true, false, cond, ◌||◌}
 use mathlib.Core.List.{List, [], ◌∷◌}
 use native.Mathlib.Omega.{arith}
-use borrow.Author.Tests.{ne_eqb}
 use lib.Dec.{eqb}
 use Rattle.translation.proofs.Lists.{Below}
 use Rattle.translation.proofs.Tests.{split}
-use Rattle.trackball.specs.Trackball.{Mouse, with_reporting, without_movement}
-use Rattle.trackball.specs.Packets.{packet, report_bytes, reported}
-use Rattle.trackball.specs.Commands.{reply_bytes, received}
+use Rattle.trackball.specs.Trackball.{Mouse}
+use Rattle.trackball.specs.Packets.{packet, report_bytes}
+use Rattle.trackball.specs.Commands.{reply_bytes}
 use Rattle.trackball.proofs.Laws.Packets.{packet_below}
 
--- ---- a byte that was sent: what it does and what it gives
-abbrev Replied : ℕ → Mouse → Mouse → List ℕ → Type 0
-Replied b m next bytes = (next ≡ received b m) × (bytes ≡ reply_bytes b m)
+-- what the definition chooses by whether it reports
+chosen : (m : Mouse) (r : Bool) → m.reporting ≡ r → report_bytes m ≡ cond r (packet m) []
+unfolding report_bytes
+chosen m r e = ap (λ (r : Bool). cond r (packet m) []) e
 
-module _ {b : ℕ} (m : Mouse) where
-  pub replied_EB : {next : Mouse} {h x y : ℕ} → b ≡ 0xEB → next ≡ without_movement m → (h ∷ x ∷ y ∷ []) ≡ packet m → Replied b m next (0xFA ∷ h ∷ x ∷ y ∷ [])
-  unfolding reply_bytes received
-  replied_EB byte after made = rw byte (after, ap (λ (l : List ℕ). 0xFA ∷ l) made)
-
-  pub replied_F2 : b ≡ 0xF2 → Replied b m m (0xFA ∷ 0x00 ∷ [])
-  unfolding reply_bytes received
-  replied_F2 byte = rw byte (refl, refl)
-
-  pub replied_F4 : {next : Mouse} → b ≡ 0xF4 → next ≡ with_reporting true m → Replied b m next (0xFA ∷ [])
-  unfolding reply_bytes received
-  replied_F4 byte after = rw byte (after, refl)
-
-  pub replied_F5 : {next : Mouse} → b ≡ 0xF5 → next ≡ with_reporting false m → Replied b m next (0xFA ∷ [])
-  unfolding reply_bytes received
-  replied_F5 byte after = rw byte (after, refl)
-
-  pub replied_FF : {next : Mouse} → b ≡ 0xFF → next ≡ without_movement (with_reporting false m) → Replied b m next (0xFA ∷ 0xAA ∷ 0x00 ∷ [])
-  unfolding reply_bytes received
-  replied_FF byte after = rw byte (after, refl)
-
-  -- every other byte
-  pub replied_other : (b ≡ 0xEB → ⊥) → (b ≡ 0xF2 → ⊥) → (b ≡ 0xF4 → ⊥) → (b ≡ 0xF5 → ⊥) → (b ≡ 0xFF → ⊥) → Replied b m m (0xFE ∷ [])
-  unfolding reply_bytes received
-  replied_other eb f2 f4 f5 ff =
-      simp (ne_eqb _ _ eb, ne_eqb _ _ f2, ne_eqb _ _ f4, ne_eqb _ _ f5, ne_eqb _ _ ff) (refl, refl)
-
--- ---- a report
-abbrev Reported : Mouse → Mouse → List ℕ → Type 0
-Reported m next bytes = (next ≡ reported m) × (bytes ≡ report_bytes m)
-
-module _ (m : Mouse) where
-  -- what the definitions choose by whether it reports
-  chosen : (r : Bool) → m.reporting ≡ r → (reported m ≡ cond r (without_movement m) m) × (report_bytes m ≡ cond r (packet m) [])
-  unfolding reported report_bytes
-  chosen r e = (ap (λ (r : Bool). cond r (without_movement m) m) e, ap (λ (r : Bool). cond r (packet m) []) e)
-
-  pub reported-on : {next : Mouse} {h x y : ℕ} → m.reporting ≡ true → next ≡ without_movement m → (h ∷ x ∷ y ∷ []) ≡ packet m → Reported m next (h ∷ x ∷ y ∷ [])
-  reported-on on after made = (after ∙ sym (chosen true on).0, made ∙ sym (chosen true on).1)
-
-  pub reported_off : m.reporting ≡ false → Reported m m []
-  reported_off off = (sym (chosen false off).0, sym (chosen false off).1)
-
--- ---- bytes
 below_cons : (b : ℕ) (l : List ℕ) → b < 256 → Below 256 l → Below 256 (b ∷ l)
 below_cons b l first rest zero = first
 below_cons b l first rest (suc k) = rest k
@@ -70,8 +26,8 @@ below_nil k = omega arith
 
 pub report_bytes_below : (m : Mouse) → Below 256 (report_bytes m)
 report_bytes_below m =
-    split m.reporting (λ on. subst (Below 256) (sym (chosen m true on).1) (packet_below m))
-    (λ off. subst (Below 256) (sym (chosen m false off).1) below_nil)
+    split m.reporting (λ on. subst (Below 256) (sym (chosen m true on)) (packet_below m))
+    (λ off. subst (Below 256) (sym (chosen m false off)) below_nil)
 
 pub reply_bytes_below : (b : ℕ) (m : Mouse) → Below 256 (reply_bytes b m)
 unfolding reply_bytes

@@ -1,19 +1,20 @@
 -- Sums as bytes: two's complement read back. Assumes nothing.
 use Prim.Native.Nat.{ℕ, suc, ◌-◌, ◌/◌, ◌%◌, ◌≤◌, ◌<◌}
-use mathlib.Core.Path.{◌≡◌, refl, sym, subst, ap, ap₂, ◌∙◌}
+use mathlib.Core.Path.{◌≡◌, refl, ap, ◌∙◌}
 use mathlib.Core.List.{List, [], ◌∷◌}
-use mathlib.Core.Bool.{Bool, true, false, cond}
+use mathlib.Core.Bool.{Bool, true, false}
 use native.Mathlib.Omega.{arith}
 use lib.ListN.{get_or}
-use lib.IntN.{ℤ, pos, negsuc, ◌-ℤ◌}
+use lib.IntN.{ℤ, pos, negsuc}
 use borrow.Author.Tests.{lt-ltb, le-ltb}
-use mir.Syntax.{w16, w32}
+use mir.Syntax.{w16}
 use mir.Val.{to_z, of_z, SFits}
-use mir.ValLaws.{to_z-of_z, to_z_pos}
+use mir.ValLaws.{to_z-of_z}
 use Rattle.translation.specs.Bits.{has, nibble, word}
 use Rattle.trackball.specs.Counters.{complement}
 use Rattle.trackball.specs.Trackball.{Mouse, SumInRange, InRange}
-use Rattle.trackball.proofs.Laws.Counters.{read, within_fits}
+use Rattle.std.specs.Int.{from_le_bytes, to_le_bytes}
+use Rattle.trackball.proofs.Laws.Counters.{read, within_fits, bits_complement, complement_below}
 use Rattle.trackball_calls.specs.Stored.{bytes_of, signed, mouse_of}
 
 -- ---- signed
@@ -25,70 +26,22 @@ pub signed_high : (n : ℕ) → 32768 ≤ n → signed n ≡ negsuc (65535 - n)
 unfolding signed
 signed_high n h = simp (le-ltb _ _ h)
 
--- A number of sixteen bits, as the machine holds it in thirty-two.
-module _ (n : ℕ) (fits : n < 65536) where
-  wide_is : to_z w32 n ≡ pos n
-  wide_is = to_z_pos w32 n (omega arith)
+signed_is : (n : ℕ) → to_z w16 n ≡ signed n
+unfolding signed
+signed_is n = let same : 65536 - suc n ≡ 65535 - n = omega arith in rw same
 
-  pub low_fits : n < 32768 → SFits w16 (to_z w32 n)
-  low_fits h = subst (SFits w16) (sym wide_is) (record { sfits = omega arith })
+-- a sum from its two bytes, as the machine reads it
+pub sum_from_bytes : {z : ℤ} (low high : ℕ) → SFits w16 z → z ≡ to_z w16 (from_le_bytes w16 (low ∷ high ∷ [])) → read z ≡ signed (word low high)
+sum_from_bytes {z} low high fits from =
+    to_z-of_z w16 z fits ∙ from ∙ signed_is (from_le_bytes w16 (low ∷ high ∷ [])) ∙ ap signed (omega arith)
 
-  pub low_read : n < 32768 → read (to_z w32 n) ≡ signed n
-  low_read h = ap read wide_is ∙ to_z-of_z w16 (pos n) (record { sfits = omega arith }) ∙ sym (signed_low n h)
-
-  less_is : to_z w32 n -ℤ pos 65536 ≡ negsuc (65535 - n)
-  less_is =
-      let same : 65536 - suc n ≡ 65535 - n = omega arith in
-      ap (λ (z : ℤ). z -ℤ pos 65536) wide_is ∙ ap (λ (b : Bool). cond b (negsuc (65536 - suc n)) (pos (n - 65536))) (lt-ltb n 65536 fits) ∙ ap negsuc same
-
-  negative_fits : 32768 ≤ n → SFits w16 (negsuc (65535 - n))
-  negative_fits h = record { sfits = omega arith }
-
-  pub less_fits : SFits w32 (to_z w32 n -ℤ pos 65536)
-  less_fits = subst (SFits w32) (sym less_is) (record { sfits = omega arith })
-
-  less_read : to_z w32 (of_z w32 (to_z w32 n -ℤ pos 65536)) ≡ negsuc (65535 - n)
-  less_read = ap (λ (z : ℤ). to_z w32 (of_z w32 z)) less_is ∙ to_z-of_z w32 (negsuc (65535 - n)) (record { sfits = omega arith })
-
-  pub high_fits : 32768 ≤ n → SFits w16 (to_z w32 (of_z w32 (to_z w32 n -ℤ pos 65536)))
-  high_fits h = subst (SFits w16) (sym less_read) (negative_fits h)
-
-  pub high_read : 32768 ≤ n → read (to_z w32 (of_z w32 (to_z w32 n -ℤ pos 65536))) ≡ signed n
-  high_read h = ap read less_read ∙ to_z-of_z w16 (negsuc (65535 - n)) (negative_fits h) ∙ sym (signed_high n h)
-
--- ---- bytes_of, mouse_of
-
--- the bytes of a trackball, from what `complement` says of the sums, as the machine reads them
-pub bytes_of_made : (m : Mouse) {a b f : ℕ} → SFits w16 m.x.sum → SFits w16 m.y.sum → a ≡ complement (read m.x.sum) → b ≡ complement (read m.y.sum) →
-    f ≡ nibble m.reporting m.x.overflow m.y.overflow false →
-    (m.buttons ∷ f ∷ a % 256 ∷ a / 256 ∷ b % 256 ∷ b / 256 ∷ []) ≡ bytes_of m
-unfolding bytes_of
-bytes_of_made m p q x y flags =
-    let xs = x ∙ ap complement (to_z-of_z w16 m.x.sum p) in
-    let ys = y ∙ ap complement (to_z-of_z w16 m.y.sum q) in
-    ap₂ (λ (f : ℕ) (l : List ℕ). m.buttons ∷ f ∷ l) flags
-    (ap₂ (λ (a b : ℕ). a % 256 ∷ a / 256 ∷ b % 256 ∷ b / 256 ∷ []) xs ys)
-
--- the trackball of six bytes, from what `signed` says of their words
-pub mouse_of_made : (s : List ℕ) {x y : ℤ} {a b : ℕ} → SFits w16 x → SFits w16 y → x ≡ signed a → y ≡ signed b →
-    a ≡ word (get_or s 2 0) (get_or s 3 0) → b ≡ word (get_or s 4 0) (get_or s 5 0) →
-    record {
-      x = record { sum = read x; overflow = has (get_or s 1 0) 1 };
-      y = record { sum = read y; overflow = has (get_or s 1 0) 2 };
-      buttons = get_or s 0 0 % 8;
-      reporting = has (get_or s 1 0) 0;
-    } ≡ mouse_of s
-unfolding mouse_of
-mouse_of_made s {x} {y} p q sx sy wx wy =
-    ap₂
-    (λ (u v : ℤ).
-    record {
-      x = record { sum = u; overflow = has (get_or s 1 0) 1 };
-      y = record { sum = v; overflow = has (get_or s 1 0) 2 };
-      buttons = get_or s 0 0 % 8;
-      reporting = has (get_or s 1 0) 0;
-    })
-    (to_z-of_z w16 x p ∙ sx ∙ ap signed wx) (to_z-of_z w16 y q ∙ sy ∙ ap signed wy)
+-- the two bytes of a sum, as the machine reads it
+pub bytes_from_sum : {z : ℤ} {bytes : List ℕ} → SFits w16 z → bytes ≡ to_le_bytes w16 (of_z w16 (read z)) →
+    (get_or bytes 0 0 ≡ complement z % 256) × (get_or bytes 1 0 ≡ complement z / 256)
+bytes_from_sum {z} {bytes} fits from =
+    let bits : of_z w16 (read z) ≡ complement z = ap (of_z w16) (to_z-of_z w16 z fits) ∙ bits_complement z fits in
+    let made : bytes ≡ to_le_bytes w16 (complement z) = from ∙ ap (to_le_bytes w16) bits in
+    (ap (λ (l : List ℕ). get_or l 0 0) made ∙ omega arith, ap (λ (l : List ℕ). get_or l 1 0) made ∙ omega (arith, complement_below z))
 
 -- ---- the bytes read back
 

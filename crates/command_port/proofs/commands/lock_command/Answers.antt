@@ -1,4 +1,4 @@
--- `command_port::commands::lock_up` meets its contract. With a code, the two changes follow one another; without, there is none.
+-- `command_port::commands::lock_command` meets its contract. With a code, the two changes follow one another; without, there is none.
 -- Assumes nothing.
 use Rattle.state.proofs.Laws.Changed.{untouched, by_two}
 use Rattle.machine.proofs.Laws.Commands.{lock_command_some, lock_command-none}

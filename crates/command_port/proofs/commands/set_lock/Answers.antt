@@ -1,4 +1,4 @@
--- `command_port::commands::close` meets its contract. The store is the law's.
+-- `command_port::commands::set_lock` meets its contract. The store is the law's.
 -- Assumes nothing.
 use borrow.Author.Rules.{rules}
 use Rattle.state.proofs.Laws.Changed.{stored-lock_set}

@@ -1,12 +1,10 @@
 -- `controller::run::run_fitting` meets its contract. Each turn of the loop runs a piece of 500 events, the last what is left.
 -- Assumes nothing.
-use Prim.Native.Nat.{◌-◌}
-use lib.ListN.{length}
+use Rattle.std.proofs.Common.{◌≡◌, ◌*◌}
 use Rattle.controller.proofs.Laws.Run.{Pieced}
 use Rattle.controller.proofs.run.run_fitting.Given as goal
 
-abbrev pub invariant-loop-answers : goal.invariant-loop-answers
-invariant-loop-answers l = Pieced l.initial.s l.list l.initial.answers l.s l.answers l.done l.written
-
-abbrev pub decreases-loop-answers : goal.decreases-loop-answers
-decreases-loop-answers l = length l.list - l.done
+abbrev pub invariant-loop-turn : goal.invariant-loop-turn
+invariant-loop-turn l =
+    (l.turn-iterator.a.end ≡ l.pieces) × (l.turn-iterator.b.size ≡ 1500)
+    × Pieced l.initial.s l.list l.initial.answers l.s l.answers l.turn-iterator.b.rest.now (l.turn-iterator.a.start * 4500)

@@ -3,15 +3,10 @@
 use Rattle.controller.proofs.Laws.Run.{run_last, run-over, both_le}
 use Rattle.controller.proofs.run.run_last.Goals as goal
 
-pub run_one-requires : goal.run_one-requires
-run_one-requires c = both_le c.if-list-answers.true
-
 pub returns-then-list-answers : goal.returns-then-list-answers
 returns-then-list-answers c =
-    let one = c in
-    let test = one in
-    let (some, room) = both_le test.if-list-answers.true in
-    run_last some room one.run_one.ensures test.requires
+    let (some, room) = both_le c.if-list-answers.true in
+    run_last some room c.run_one.ensures c.requires
 
 pub returns-else-list-answers : goal.returns-else-list-answers
 returns-else-list-answers c = run-over c.if-list-answers.false

@@ -6,14 +6,11 @@ use Rattle.data_port.proofs.writes.latch.Goals as goal
 
 pub returns : goal.returns
 returns c =
-    let third = c in
-    let second = third in
-    let writable = second in
-    stored-latched (search rules) writable.args.v
-    writable.high_writable-high.ensures
-    third.at_mode.ensures
-    second.either-p22.ensures
-    second.either-p23.ensures
-    third.either-p25.ensures
+    stored-latched (search rules) c.args.v
+    c.high_writable-high.ensures
+    c.at_mode.ensures
+    c.either-p22.ensures
+    c.either-p23.ensures
+    c.either-p25.ensures
     c.nibble.ensures.0
     c.nibble-2.ensures.0

@@ -5,4 +5,4 @@ use Rattle.state.proofs.Laws.Changed.{stored-sending}
 use Rattle.data_port.proofs.writes.send.Goals as goal
 
 pub returns : goal.returns
-returns c = stored-sending (search rules)
+returns c = rw c.number.ensures (stored-sending (search rules))

@@ -3,16 +3,14 @@
 use mathlib.Core.Path.{refl}
 use Rattle.machine.specs.Events.{accept}
 use Rattle.state.proofs.Laws.Changed.{by_rule}
-use Rattle.state.proofs.Laws.Told.{met_accepted, met_refused}
+use Rattle.state.proofs.Laws.Told.{told_refused, told_quiet}
 use Rattle.devices.proofs.mouse.mouse_event.Goals as goal
-use Rattle.devices.proofs.mouse.mouse_event.Goals.{then-number-eq0, else-number-eq0}
+
+pub returns-in_err-check_mouse : goal.returns-in_err-check_mouse
+returns-in_err-check_mouse c = told_refused _ c.from_residual.result c.from_residual.ensures.1 c.in_err-check_mouse.ensures
 
 pub returns : goal.returns
 unfolding accept
 returns c =
-    let checked = c.mouse_refusal-number.ensures in
-    let told = c.quiet.ensures in
-    elim c.if-number-eq0.branch [
-      | then-number-eq0 w ↦ met_accepted checked told w.if-number-eq0.true (refl, refl, refl) (by_rule w.mouse_frame.ensures (rw (w.judge.ensures, w.word.ensures) refl)) w.s-is
-      | else-number-eq0 w ↦ met_refused checked told w.if-number-eq0.false w.s-is
-    ]
+    told_quiet c.default.result c.in_ok-check_mouse.ensures c.default.ensures (refl, refl, refl)
+    (by_rule c.mouse_frame.ensures (rw (c.judge.ensures, c.word.ensures) refl))

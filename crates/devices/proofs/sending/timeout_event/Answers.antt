@@ -3,16 +3,12 @@
 use mathlib.Core.Path.{refl}
 use Rattle.machine.specs.Events.{accept}
 use Rattle.state.proofs.Laws.Changed.{by_rule}
-use Rattle.state.proofs.Laws.Told.{met_accepted, met_refused}
+use Rattle.state.proofs.Laws.Told.{told_refused, told_quiet}
 use Rattle.devices.proofs.sending.timeout_event.Goals as goal
-use Rattle.devices.proofs.sending.timeout_event.Goals.{then-number-eq0, else-number-eq0}
+
+pub returns-in_err-check_end : goal.returns-in_err-check_end
+returns-in_err-check_end c = told_refused _ c.from_residual.result c.from_residual.ensures.1 c.in_err-check_end.ensures.1
 
 pub returns : goal.returns
 unfolding accept
-returns c =
-    let checked = c.end_refusal-number.ensures.1 in
-    let told = c.quiet.ensures in
-    elim c.if-number-eq0.branch [
-      | then-number-eq0 w ↦ met_accepted checked told w.if-number-eq0.true (refl, refl, refl) (by_rule w.timed_out.ensures refl) w.s-is
-      | else-number-eq0 w ↦ met_refused checked told w.if-number-eq0.false w.s-is
-    ]
+returns c = told_quiet c.default.result c.in_ok-check_end.ensures.1 c.default.ensures (refl, refl, refl) (by_rule c.timed_out.ensures refl)

@@ -4,6 +4,4 @@ use Rattle.image.proofs.Laws.Run.{ran_built_in}
 use Rattle.image.proofs.run.run_image.Goals as goal
 
 pub returns : goal.returns
-returns c =
-    let ran = c in
-    ran_built_in ran.built_in-table.ensures ran.run_image_with_table.ensures
+returns c = ran_built_in c.built_in.ensures c.run_image_with_table.ensures

@@ -1,34 +1,16 @@
--- `image_bytes::find::body_start` meets its contract. An image that passes check 10 has the size of its body as its distance.
+-- `image_bytes::find::body_start` meets its contract. None stands for the length.
 -- Assumes nothing.
-use Rattle.std.proofs.Common.{◌≡◌, ℕ, List, sym, ◌∙◌, arith}
-use Rattle.image_bytes.proofs.Laws.Find.{sealed_distance, Image, image_of, body_start-none, body_start_pointed}
-use Rattle.image_bytes.specs.Find.{body_size}
+use Rattle.std.proofs.Common.{◌≡◌, ℕ, ◌+◌, ◌≤◌, List, length, sym, ◌∙◌}
+use Rattle.std.specs.Prelude.{Option, Some, None, MatchOption, unwrap_or}
+use Rattle.image_bytes.specs.Find.{body_size, body_start}
+use Rattle.image_bytes.proofs.Laws.Find.{body_start-none}
 use Rattle.image_bytes.proofs.find.body_start.Goals as goal
 
--- the image that a size other than 0 shows
-image : (bytes : List ℕ) {size : ℕ} → size ≡ body_size bytes → (size ≡ 0 → ⊥) → Image bytes
-image bytes is some = image_of bytes (λ z. some (is ∙ z))
-
--- its distance
-pointed : (c : goal.After-word-distance) → c.word-distance.result ≡ (image c.args.bytes.now c.body_size.ensures c.if-body_size-eq0.false).size
-pointed c =
-    let i = image c.args.bytes.now c.body_size.ensures c.if-body_size-eq0.false in
-    c.word-distance.ensures ∙ sealed_distance i.edition i.size _ i.parts
-
-pub returns-then-body_size-eq0 : goal.returns-then-body_size-eq0
-returns-then-body_size-eq0 c = sym (body_start-none _ (sym c.body_size.ensures ∙ c.if-body_size-eq0.true))
-
-pub overflow_sub-at : goal.overflow_sub-at
-overflow_sub-at c = omega (arith, (image c.args.bytes.now c.body_size.ensures c.if-body_size-eq0.false).parts)
-
-pub bounds-bytes-at : goal.bounds-bytes-at
-bounds-bytes-at c = omega (arith, (image c.args.bytes.now c.body_size.ensures c.if-body_size-eq0.false).parts)
-
-pub bounds-bytes-at-2 : goal.bounds-bytes-at-2
-bounds-bytes-at-2 c = omega (arith, (image c.args.bytes.now c.body_size.ensures c.if-body_size-eq0.false).parts)
-
-pub overflow_sub-result : goal.overflow_sub-result
-overflow_sub-result c = omega (arith, (image c.args.bytes.now c.body_size.ensures c.if-body_size-eq0.false).parts, pointed c)
+or_length : (bytes : List ℕ) (start : Option ℕ) →
+    MatchOption start (body_size bytes ≡ 0) (λ s. (s ≡ body_start bytes) × (s + 8 ≤ length bytes)) →
+    unwrap_or start (length bytes) ≡ body_start bytes
+or_length bytes None none = sym (body_start-none bytes none)
+or_length bytes (Some s) (here, room) = here
 
 pub returns : goal.returns
-returns c = sym (body_start_pointed _ (image c.args.bytes.now c.body_size.ensures c.if-body_size-eq0.false) (pointed c))
+returns c = c.unwrap_or.ensures ∙ or_length c.args.bytes.now c.start_of.result c.start_of.ensures

@@ -1,25 +1,15 @@
--- `image_bytes::find::ends` meets its contract. With bytes enough, its tests are the definition's, read where the trailer's bytes stand.
+-- `image_bytes::find::ends` meets its contract. With bytes enough, its tests are the definition's.
 -- Assumes nothing.
-use Rattle.std.proofs.Common.{◌+◌, ◌≤◌, length, sym, ap, ◌∙◌, arith}
-use Rattle.image_bytes.specs.Sum.{word_sum}
-use Rattle.image_bytes.proofs.Laws.Find.{body_of_part, ends_short, ends_tests}
+use Rattle.std.proofs.Common.{ℕ, ap, ◌∙◌, arith}
+use Rattle.image_bytes.specs.Edition.{number}
+use Rattle.image_bytes.specs.Find.{ends}
+use Rattle.image_bytes.proofs.Laws.Find.{ends_tests}
 use Rattle.image_bytes.proofs.find.ends.Goals as goal
-
-pub returns-then-n-lt-TRAILER : goal.returns-then-n-lt-TRAILER
-returns-then-n-lt-TRAILER c = let a = c.args in sym (ends_short a.edition a.size a.bytes.now (omega arith))
-
-pub returns-then-at-size : goal.returns-then-at-size
-returns-then-at-size c = let a = c.args in sym (ends_short a.edition a.size a.bytes.now (omega arith))
 
 pub returns : goal.returns
 returns c =
-    let summed = c in
-    let stored = summed in
-    let pointed = stored in
-    let a = pointed.args in
-    let room : a.size + 8 ≤ length a.bytes.now = omega (arith, pointed) in
-    ends_tests a.edition a.size a.bytes.now _ _ _ _ room
-    c.marked.ensures
-    pointed.word-distance.ensures
-    stored.word-stored.ensures
-    (summed.word_sum-total.ensures ∙ ap word_sum (body_of_part a.size a.bytes.now room))
+    let (before, end, long) = c.in-Some.ensures.cases in
+    ends_tests _ _ _ _ _ _ _ _ _ _ before end long c.if-front-size.false c.marked.ensures c.from.ensures c.distance_of.ensures
+    (omega (arith, c.from_le_bytes-stored.ensures))
+    c.word_sum-total.ensures
+    ∙ ap (λ (n : ℕ). ends (number c.args.edition) n c.args.bytes.now) c.body_size-size.ensures

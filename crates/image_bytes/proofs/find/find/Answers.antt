@@ -1,21 +1,14 @@
--- `image_bytes::find::find` meets its contract. The body starts at the end of the bytes only where there is none; else it goes on to the trailer. Where a
--- part lies is what the rule of a part says.
+-- `image_bytes::find::find` meets its contract. The part is empty and at the end of the bytes where no body is found; else it goes on to the trailer.
+-- Where a part lies is what the rule of a part says.
 -- Assumes nothing.
-use Rattle.std.proofs.Common.{refl, arith}
-use Rattle.image_bytes.proofs.Laws.Find.{start-room, found_nowhere, found_there}
+use Rattle.std.proofs.Common.{refl, sym, arith}
+use Rattle.image_bytes.proofs.Laws.Find.{body_start-none, found_nowhere, found_there}
 use Rattle.image_bytes.proofs.find.find.Goals as goal
 
-pub returns-then-start-bytes : goal.returns-then-start-bytes
-returns-then-start-bytes c = found_nowhere c.body_start-start.ensures c.if-start-bytes.true refl
+pub returns-in-None : goal.returns-in-None
+returns-in-None c = found_nowhere (sym (body_start-none _ c.in-None.ensures)) refl refl
 
-pub overflow_sub-end : goal.overflow_sub-end
-overflow_sub-end c = omega (arith, start-room _ c.body_start-start.ensures c.if-start-bytes.false)
-
-pub slice_bounds-result-count-2 : goal.slice_bounds-result-count-2
-slice_bounds-result-count-2 c = omega (arith, start-room _ c.body_start-start.ensures c.if-start-bytes.false)
-
-pub slice_bounds-result-start-2 : goal.slice_bounds-result-start-2
-slice_bounds-result-start-2 c = omega (arith, start-room _ c.body_start-start.ensures c.if-start-bytes.false)
-
-pub returns : goal.returns
-returns c = found_there c.body_start-start.ensures c.if-start-bytes.false refl
+pub returns-in-Some : goal.returns-in-Some
+returns-in-Some c =
+    let (here, room) = c.in-Some.ensures in
+    found_there here (λ past. omega (arith, past, room)) refl

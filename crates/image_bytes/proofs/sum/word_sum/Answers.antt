@@ -1,20 +1,14 @@
--- `image_bytes::sum::word_sum` meets its contract. The loop's invariant: what has been added up and the words from byte i on come to the sum, modulo
--- 65,536; the measure is what is left of the body.
+-- `image_bytes::sum::word_sum` meets its contract. The chain adds up the pairs of bytes, which are the words.
 -- Assumes nothing.
-use Rattle.std.proofs.Common.{arith}
-use Rattle.image_bytes.specs.Sum.{word_sum}
-use Rattle.image_bytes.proofs.Laws.Sum.{total_end, total-word}
+use Rattle.std.proofs.Common.{rules, length, ◌/◌, ◌∙◌}
+use Rattle.std.specs.Simd.{first_chunks}
+use Rattle.std.proofs.lemmas.Iterator.{YieldsList-from_slice}
+use Rattle.std.proofs.lemmas.Iterator.Consumers.{fold_from_yields_List}
+use Rattle.image_bytes.proofs.Laws.Sum.{added, word_sum-pairs}
 use Rattle.image_bytes.proofs.sum.word_sum.Goals as goal
-
-pub loop-i-init : goal.loop-i-init
-unfolding word_sum
-loop-i-init c = omega arith
-
-pub loop-i-preserved : goal.loop-i-preserved
-loop-i-preserved c =
-    let head = c in
-    omega (arith, total-word head.args.body.now head.loop-i.i (omega arith))
 
 pub returns : goal.returns
 returns c =
-    omega (arith, total_end c.args.body.now c.loop-i.i (omega arith))
+    let body = c.args.body.now in
+    let pairs = first_chunks 2 (length body / 2) body in
+    fold_from_yields_List _ added 0 _ c.fold.ensures.ran (YieldsList-from_slice pairs (cc)) (λ a x b q k. search rules) ∙ word_sum-pairs body

@@ -1,4 +1,4 @@
--- `keyboard::keyboard::keyed_byte` meets its contract. The two tests are the definition's, in its order.
+-- `keyboard::keyboard::deliver_byte` meets its contract. The two tests are the definition's, in its order.
 -- Assumes nothing.
 use Rattle.state.proofs.Laws.Changed.{by_rule, untouched}
 use Rattle.machine.proofs.Laws.Devices.{byte_delivered_off, byte_delivered-try, byte_delivered-put}

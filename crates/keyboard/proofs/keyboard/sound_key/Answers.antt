@@ -12,9 +12,6 @@ use Rattle.keyboard.proofs.keyboard.sound_key.Goals as goal
 pub returns : goal.returns
 unfolding sound_key
 returns c =
-    let flagged = c in
-    let cleared = flagged in
-    let read = cleared in
-    let m = view read.args.s.now in
-    by_rule (chain (chain cleared.set_errors.ensures.change flagged.set_breaks.ensures) c.deliver_yield.ensures)
-    (ap (λ (t : Translation). yield_delivered t.yields (lift (breaking t.breaks) (lift (errors_set false false) m))) read.translated-t.ensures)
+    let m = view c.args.s.now in
+    by_rule (chain (chain c.set_errors.ensures.change c.set_breaks.ensures) c.deliver_yield.ensures)
+    (ap (λ (t : Translation). yield_delivered t.yields (lift (breaking t.breaks) (lift (errors_set false false) m))) c.translated-t.ensures)

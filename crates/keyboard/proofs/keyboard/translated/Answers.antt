@@ -5,11 +5,8 @@ use Rattle.keyboard.proofs.keyboard.translated.Goals as goal
 
 pub returns-then-translates-locked : goal.returns-then-translates-locked
 returns-then-translates-locked c =
-    let read = c in
-    let on = read in
-    let locked = on in
-    translated-on _ _ locked.translates.ensures locked.locked.ensures on.if-translates-locked.true
-    (c.translate.ensures _ read.entry.ensures) read.breaks.ensures
+    translated-on _ _ c.translates.ensures c.locked.ensures c.if-translates-locked.true
+    (c.translate.ensures _ c.entry.ensures) c.breaks.ensures
 
 pub returns-else-translates-locked : goal.returns-else-translates-locked
 returns-else-translates-locked c = search translated_off

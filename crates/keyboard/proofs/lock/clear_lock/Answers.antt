@@ -1,4 +1,4 @@
--- `keyboard::lock::open_lock` meets its contract. The stores are the law's.
+-- `keyboard::lock::clear_lock` meets its contract. The stores are the law's.
 -- Assumes nothing.
 use borrow.Author.Rules.{rules}
 use Rattle.state.proofs.Laws.Changed.{stored-lock_cleared}

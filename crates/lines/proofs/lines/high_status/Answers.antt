@@ -1,11 +1,8 @@
 -- `lines::lines::high_status` meets its contract. The overlay's test picks the case of the definition.
 -- Assumes nothing.
-use borrow.Author.Tests.{eq-eqb, ne_eqb}
-use Rattle.machine.proofs.Laws.Lines.{high_with-overlay, high_with-lines}
+use borrow.Author.Tests.{ne_eqb}
+use Rattle.machine.proofs.Laws.Lines.{high_with-lines}
 use Rattle.lines.proofs.lines.high_status.Goals as goal
-
-pub returns-then-s-eq1 : goal.returns-then-s-eq1
-returns-then-s-eq1 c = (search (high_with-overlay, eq-eqb), c.overlay_shown.ensures.1)
 
 pub returns-else-s-eq1 : goal.returns-else-s-eq1
 returns-else-s-eq1 c = (search (high_with-lines, ne_eqb), c.upper.ensures.1)

@@ -7,11 +7,9 @@ use Rattle.lines.proofs.lines.ps2_shown.Goals as goal
 
 pub returns-then-not-output_full : goal.returns-then-not-output_full
 returns-then-not-output_full c =
-    let test = c in
-    let port = test in
-    let low = port.nibble-low.ensures.0 in (
-      shown-empty _ port.mouse_off.ensures port.keyboard_off.ensures low port.nibble.ensures.0
-          port.weight.ensures.0 test.output_full.ensures c.if-not-output_full.true c.high_status.ensures.0,
+    let low = c.nibble-low.ensures.0 in (
+      shown-empty _ c.mouse_off.ensures c.keyboard_off.ensures low c.nibble.ensures.0
+          c.weight.ensures.0 c.output_full.ensures c.if-not-output_full.true c.high_status.ensures.0,
       omega (arith, low_most _ _ low, c.high_status.ensures.1),
     )
 
@@ -27,26 +25,18 @@ overflow_add-result-else-from_mouse-2 c =
 
 pub returns-then-from_mouse : goal.returns-then-from_mouse
 returns-then-from_mouse c =
-    let high = c in
-    let from = high in
-    let test = from in
-    let port = test in
-    let low = port.nibble-low.ensures.0 in (
-      shown-mouse _ port.mouse_off.ensures port.keyboard_off.ensures low port.nibble.ensures.0
-          port.weight.ensures.0 test.output_full.ensures from.if-not-output_full.false from.from_mouse.ensures high.if-from_mouse.true
-          high.high_status-then-from_mouse.ensures.0 c.weight-then-from_mouse.ensures.0,
-      omega (arith, low_most _ _ low, high.high_status-then-from_mouse.ensures.1),
+    let low = c.nibble-low.ensures.0 in (
+      shown-mouse _ c.mouse_off.ensures c.keyboard_off.ensures low c.nibble.ensures.0
+          c.weight.ensures.0 c.output_full.ensures c.if-not-output_full.false c.from_mouse.ensures c.if-from_mouse.true
+          c.high_status-then-from_mouse.ensures.0 c.weight-then-from_mouse.ensures.0,
+      omega (arith, low_most _ _ low, c.high_status-then-from_mouse.ensures.1),
     )
 
 pub returns-else-from_mouse : goal.returns-else-from_mouse
 returns-else-from_mouse c =
-    let high = c in
-    let from = high in
-    let test = from in
-    let port = test in
-    let low = port.nibble-low.ensures.0 in (
-      shown-keyboard _ port.mouse_off.ensures port.keyboard_off.ensures low port.nibble.ensures.0
-          port.weight.ensures.0 test.output_full.ensures from.if-not-output_full.false from.from_mouse.ensures high.if-from_mouse.false
-          high.high_status-else-from_mouse.ensures.0 c.weight-else-from_mouse.ensures.0,
-      omega (arith, low_most _ _ low, high.high_status-else-from_mouse.ensures.1),
+    let low = c.nibble-low.ensures.0 in (
+      shown-keyboard _ c.mouse_off.ensures c.keyboard_off.ensures low c.nibble.ensures.0
+          c.weight.ensures.0 c.output_full.ensures c.if-not-output_full.false c.from_mouse.ensures c.if-from_mouse.false
+          c.high_status-else-from_mouse.ensures.0 c.weight-else-from_mouse.ensures.0,
+      omega (arith, low_most _ _ low, c.high_status-else-from_mouse.ensures.1),
     )

@@ -4,4 +4,4 @@ use Rattle.secrecy.proofs.Compared.{compared}
 use Rattle.secrecy.proofs.compare.run_both.Goals as goal
 
 pub returns : goal.returns
-returns c = search compared
+returns c = compared c.run_with_table-first.ensures c.run_with_table-second.ensures

@@ -1,42 +1,19 @@
--- `translation::key_table::all_once` meets its contract. The loop's invariant: each from 1 up to v was counted once, so that the test from v on is the
--- whole test; the measure is what is left of the values.
+-- `translation::key_table::all_once` meets its contract: the counts of 01h-7Fh are the definition's.
 -- Assumes nothing.
-use Prim.Native.Nat.{ℕ, suc, ◌+◌, ◌-◌}
-use mathlib.Core.Path.{◌≡◌, refl, ap, ap₂, sym, ◌∙◌}
-use native.Mathlib.Omega.{arith}
+use Rattle.std.proofs.Common.{◌≡◌, ℕ, ◌+◌, length, take, drop, ap, ◌∙◌, arith, rules, length-take, length-drop}
+use Rattle.std.proofs.lemmas.Iterator.{YieldsList-from_slice}
+use Rattle.std.proofs.lemmas.Iterator.Search.{all_from_yields_List}
+use lib.Dec.{eqb}
+use lib.Seq.{get_or-take, get_or-drop}
 use Rattle.translation.specs.KeyTable.{numbers_from, each_once}
-use Rattle.translation.proofs.KeyTable.{once_on, once_not}
+use Rattle.translation.proofs.KeyTable.{each_once-counted}
 use Rattle.translation.proofs.key_table.all_once.Goals as goal
 
-pub loop-v-init : goal.loop-v-init
-loop-v-init c = (omega arith, omega arith, λ xs counted. refl)
-
-pub returns-then-seen-v-ne1 : goal.returns-then-seen-v-ne1
-returns-then-seen-v-ne1 c =
-    let here = c.loop-v in
-    let left : 128 - here.v ≡ suc (127 - here.v) = omega (arith, here.invariant.1) in
-    λ xs counted.
-    sym
-    (here.invariant.2 xs counted ∙ ap (λ (n : ℕ). each_once (numbers_from here.v n) xs) left
-    ∙ once_not here.v (127 - here.v) xs (λ one. c.if-seen-v-ne1.true (counted here.v (omega (arith, here.invariant.1)) ∙ one)))
-
-pub loop-v-preserved : goal.loop-v-preserved
-loop-v-preserved c =
-    let here = c.loop-v in
-    let v = here.v in
-    let left : 128 - v ≡ suc (127 - v) = omega (arith, here.invariant.1) in
-    let next : suc v ≡ v + 1 = omega arith in
-    let fewer : 127 - v ≡ 128 - (v + 1) = omega arith in (
-      omega arith,
-      omega arith,
-      λ xs counted.
-          here.invariant.2 xs counted ∙ ap (λ (n : ℕ). each_once (numbers_from v n) xs) left
-          ∙ once_on v (127 - v) xs (sym (counted v (omega (arith, here.invariant.1))) ∙ c.if-seen-v-ne1.false)
-          ∙ ap₂ (λ (w n : ℕ). each_once (numbers_from w n) xs) next fewer,
-    )
-
 pub returns : goal.returns
-returns c =
-    let here = c.loop-v in
-    let none : 128 - here.v ≡ 0 = omega arith in
-    λ xs counted. sym (here.invariant.2 xs counted ∙ ap (λ (n : ℕ). each_once (numbers_from here.v n) xs) none)
+returns c = λ xs counted.
+    let times = take 0x7F (drop 1 c.args.seen) in
+    let whole : length c.args.seen ≡ 256 = search rules in
+    let long : length times ≡ 0x7F = simp (length-take, length-drop) (omega arith) in
+    all_from_yields_List (λ n. eqb n 1) _ _ _ c.all.ensures.ran (YieldsList-from_slice times cc) (λ x b q k. search rules)
+    ∙ each_once-counted 1 times xs (λ k h. get_or-take 0x7F (drop 1 c.args.seen) k 0 (omega arith) ∙ get_or-drop 1 c.args.seen k 0 ∙ counted (1 + k) (omega arith))
+    ∙ ap (λ (n : ℕ). each_once (numbers_from 1 n) xs) long

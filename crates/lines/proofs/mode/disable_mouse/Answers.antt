@@ -1,8 +1,0 @@
--- `lines::mode::disable_mouse` meets its contract. The mode byte that is stored is the rule's, of the one that was read.
--- Assumes nothing.
-use Rattle.machine.proofs.Laws.KeptLines.{mouse_disabled-kept}
-use Rattle.state.proofs.Laws.Changed.{by_rule, kept-change}
-use Rattle.lines.proofs.mode.disable_mouse.Goals as goal
-
-pub returns : goal.returns
-returns c = kept-change (by_rule c.set_mode.ensures.change (cc)) (λ k. mouse_disabled-kept k)
