@@ -1,17 +1,50 @@
--- What a byte that was sent and a report give are bytes. Assumes nothing.
+-- The cases of a byte that was sent, and that what it and a report give are bytes. Assumes nothing.
 use Prim.Native.Nat.{ℕ, zero, suc, ◌<◌}
-use mathlib.Core.Path.{◌≡◌, sym, ap, subst}
+use mathlib.Core.Path.{◌≡◌, refl, sym, ap, subst}
 use mathlib.Core.Bool.{Bool, true, false, cond, ◌||◌}
 use mathlib.Core.List.{List, [], ◌∷◌}
 use native.Mathlib.Omega.{arith}
+use borrow.Author.Tests.{ne_eqb}
 use lib.Dec.{eqb}
 use Rattle.translation.proofs.Lists.{Below}
 use Rattle.translation.proofs.Tests.{split}
-use Rattle.trackball.specs.Trackball.{Mouse}
+use Rattle.trackball.specs.Trackball.{Mouse, with_reporting, without_movement}
 use Rattle.trackball.specs.Packets.{packet, report_bytes}
-use Rattle.trackball.specs.Commands.{reply_bytes}
+use Rattle.trackball.specs.Commands.{reply_bytes, received}
 use Rattle.trackball.proofs.Laws.Packets.{packet_below}
 
+-- ---- a byte that was sent: what it does and what it gives
+abbrev Replied : ℕ → Mouse → Mouse → List ℕ → Type 0
+Replied b m next bytes = (next ≡ received b m) × (bytes ≡ reply_bytes b m)
+
+module _ {b : ℕ} (m : Mouse) where
+  pub replied_EB : {next : Mouse} {h x y : ℕ} → b ≡ 0xEB → next ≡ without_movement m → (h ∷ x ∷ y ∷ []) ≡ packet m → Replied b m next (0xFA ∷ h ∷ x ∷ y ∷ [])
+  unfolding reply_bytes received
+  replied_EB byte after made = rw byte (after, ap (λ (l : List ℕ). 0xFA ∷ l) made)
+
+  pub replied_F2 : b ≡ 0xF2 → Replied b m m (0xFA ∷ 0x00 ∷ [])
+  unfolding reply_bytes received
+  replied_F2 byte = rw byte (refl, refl)
+
+  pub replied_F4 : {next : Mouse} → b ≡ 0xF4 → next ≡ with_reporting true m → Replied b m next (0xFA ∷ [])
+  unfolding reply_bytes received
+  replied_F4 byte after = rw byte (after, refl)
+
+  pub replied_F5 : {next : Mouse} → b ≡ 0xF5 → next ≡ with_reporting false m → Replied b m next (0xFA ∷ [])
+  unfolding reply_bytes received
+  replied_F5 byte after = rw byte (after, refl)
+
+  pub replied_FF : {next : Mouse} → b ≡ 0xFF → next ≡ without_movement (with_reporting false m) → Replied b m next (0xFA ∷ 0xAA ∷ 0x00 ∷ [])
+  unfolding reply_bytes received
+  replied_FF byte after = rw byte (after, refl)
+
+  -- every other byte
+  pub replied_other : (b ≡ 0xEB → ⊥) → (b ≡ 0xF2 → ⊥) → (b ≡ 0xF4 → ⊥) → (b ≡ 0xF5 → ⊥) → (b ≡ 0xFF → ⊥) → Replied b m m (0xFE ∷ [])
+  unfolding reply_bytes received
+  replied_other eb f2 f4 f5 ff =
+      simp (ne_eqb _ _ eb, ne_eqb _ _ f2, ne_eqb _ _ f4, ne_eqb _ _ f5, ne_eqb _ _ ff) (refl, refl)
+
+-- ---- bytes
 -- what the definition chooses by whether it reports
 chosen : (m : Mouse) (r : Bool) → m.reporting ≡ r → report_bytes m ≡ cond r (packet m) []
 unfolding report_bytes
