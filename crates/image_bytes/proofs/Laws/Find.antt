@@ -1,13 +1,13 @@
 -- Laws of the definitions in specs/Find. Assumes nothing.
-use Rattle.std.proofs.Common.{◌≡◌, ℕ, ◌+◌, ◌-◌, ◌≤◌, Bool, true, false, ◌&&◌, eqb, leb, List, length, take, drop, sym, refl, ap, ◌∙◌, ap₂, arith, eq-eqb, ne_eqb, eqb-true, le-leb, leb-true}
-use borrow.Author.Tests.{eqb-false}
+use Rattle.std.proofs.Common.{◌≡◌, ℕ, ◌+◌, ◌-◌, ◌<◌, ◌≤◌, Bool, true, false, ◌&&◌, eqb, leb, List, length, take, drop, sym, refl, ap, ◌∙◌, ap₂, arith, eq-eqb, ne_eqb, eqb-true, le-leb, leb-true}
+use borrow.Author.Tests.{lt-leb, eqb-false}
 use Rattle.image_bytes.specs.Sum.{word_sum}
 use Rattle.image_bytes.specs.declared.edition.Edition.{Edition}
 use Rattle.image_bytes.specs.declared.edition.Edition.TheVariants.{First, Second}
 use Rattle.image_bytes.specs.Edition.{number, size}
 use Rattle.image_bytes.specs.Layout.{first_length, body_length}
 use Rattle.image_bytes.specs.Find.{trailer_of, body_of, distance_of, sum_of, edition_of, marked, ends, body_size, found, body_start, further, BodyFound}
-use Rattle.translation.proofs.Tests.{split, and_true, and_passed, and_both, cond_true, cond_false}
+use Rattle.translation.proofs.Tests.{split, and_true, and_passed, and_failed, and_both, cond_true, cond_false}
 use Rattle.translation.proofs.Lists.{take_rest, length_part}
 use Rattle.std.proofs.lemmas.Slice.{between_is}
 
@@ -34,6 +34,10 @@ pub length-body_of : (n : ℕ) (bytes : List ℕ) → n + 8 ≤ length bytes →
 length-body_of n bytes h = length_part (length bytes - (n + 8)) n bytes (omega arith)
 
 -- ---- ends
+pub ends_short : (edition n : ℕ) (bytes : List ℕ) → length bytes < n + 8 → ends edition n bytes ≡ false
+unfolding ends
+ends_short edition n bytes h = and_failed _ _ (lt-leb (n + 8) (length bytes) h)
+
 -- the tests of a trailer and of what stands before it
 pub ends_tests : (edition n : ℕ) (bytes front trailer : List ℕ) (mark : Bool) (number distance stored sum : ℕ) →
     front ≡ take (length bytes - 8) bytes → trailer ≡ trailer_of bytes → length front + 8 ≡ length bytes → n ≤ length front →
@@ -184,7 +188,7 @@ module _ (bytes : List ℕ) (e : Edition) (found : size e ≡ body_size bytes) w
 
 -- a start that was found: the length exactly where check 10 refuses the bytes
 module _ (bytes : List ℕ) {start : ℕ} (here : start ≡ body_start bytes) where
-  past_none : start ≡ length bytes → body_size bytes ≡ 0
+  pub past_none : start ≡ length bytes → body_size bytes ≡ 0
   past_none past =
       split (eqb (body_size bytes) 0) (λ e. eqb-true _ 0 e)
       (λ e.
@@ -196,7 +200,7 @@ module _ (bytes : List ℕ) {start : ℕ} (here : start ≡ body_start bytes) wh
     start-some : body_size bytes ≡ 0 → ⊥
     start-some none = before (here ∙ body_start-none bytes none)
 
-    start-room : (start ≡ length bytes - 8 - body_size bytes) × (body_size bytes + 8 ≤ length bytes)
+    pub start-room : (start ≡ length bytes - 8 - body_size bytes) × (body_size bytes + 8 ≤ length bytes)
     start-room =
         let i = image_of bytes start-some in
         (here ∙ body_start_some bytes start-some ∙ omega arith, omega (arith, i.counted, i.parts.room))

@@ -4,7 +4,7 @@ use mathlib.Core.Path.{◌≡◌, refl, ap, subst, sym, ◌∙◌}
 use mathlib.Core.List.{List, [], ◌∷◌, ◌++◌, append-nil}
 use native.Mathlib.Omega.{arith}
 use lib.ListN.{length, set, take, drop, length-append, length-drop, drop_of_length-le}
-use lib.Seq.{take_all, length-take-le}
+use lib.Seq.{take_all, take-append-le, drop-append-le, length-take-le}
 use Rattle.std.specs.List.{flat_map}
 use Rattle.std.specs.Simd.{first_chunks}
 use Rattle.printing.specs.Hex.{hex_byte}
@@ -22,9 +22,14 @@ of_nine P bytes nine holds =
     let all : listed 0 9 bytes ≡ bytes = sym (take_listed 0 9 bytes (omega (arith, nine))) ∙ take_all 9 bytes (omega (arith, nine)) in
     subst P all holds
 
-length-line : (bytes : List ℕ) → length bytes ≡ 9 → length (line bytes) ≡ 27
+pub length-line : (bytes : List ℕ) → 1 ≤ length bytes → length (line bytes) ≡ 3 * length bytes
 unfolding line spaced hex_byte
-length-line bytes nine = of_nine (λ l. length (line l) ≡ 27) bytes nine refl
+length-line [] h = absurd (omega arith)
+length-line (b ∷ []) h = refl
+length-line (b ∷ c ∷ rest) h =
+    let more = length-line (c ∷ rest) (omega arith) in
+    let one : length (line (b ∷ c ∷ rest)) ≡ suc (suc (suc (length (line (c ∷ rest))))) = refl in
+    one ∙ omega (arith, more)
 
 -- the space after the last byte gives way to LF
 pub line_of : (bytes space text : List ℕ) (i : ℕ) → length bytes ≡ 9 → length space ≡ 27 → i ≡ 9 →
@@ -54,6 +59,15 @@ unfolding lines
 length-lines zero bytes h = refl
 length-lines (suc n) bytes h =
     let nine : length (take 9 bytes) ≡ 9 = length-take-le 9 bytes (omega arith) in
-    let one = length-line (take 9 bytes) nine in
+    let one = length-line (take 9 bytes) (omega arith) in
     let more = length-lines n (drop 9 bytes) (simp length-drop (omega arith)) in
     length-append (line (take 9 bytes)) (lines n (drop 9 bytes)) ∙ omega arith
+
+-- bytes past the last line do not count
+pub lines-append : (n : ℕ) (bytes past : List ℕ) → 9 * n ≤ length bytes → lines n (bytes ++ past) ≡ lines n bytes
+unfolding lines
+lines-append zero bytes past h = refl
+lines-append (suc n) bytes past h =
+    let nine : 9 ≤ length bytes = omega arith in
+    let more = lines-append n (drop 9 bytes) past (simp length-drop (omega arith)) in
+    rw (take-append-le 9 bytes past nine, drop-append-le 9 bytes past nine, more)

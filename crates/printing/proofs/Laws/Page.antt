@@ -29,11 +29,11 @@ use Rattle.controller.specs.Promises.{FreshRun}
 use Rattle.printing.proofs.Laws.Lines.{length-lines}
 
 -- ---- refused_length
-refused_length_test : (n : ℕ) → refused_length n ≡ (not (eqb (n % 3) 0) || ltb 21000 n)
+pub refused_length_test : (n : ℕ) → refused_length n ≡ (not (eqb (n % 3) 0) || ltb 21000 n)
 unfolding refused_length length_refusal
 refused_length_test n = grind (arith, nat_tests)
 
-refused_length-within : (n : ℕ) → refused_length n ≡ false → n ≤ 21000
+pub refused_length-within : (n : ℕ) → refused_length n ≡ false → n ≤ 21000
 refused_length-within n free = grind (arith, nat_tests, refused_length_test n)
 
 -- ---- answered, page

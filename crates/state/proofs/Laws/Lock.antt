@@ -1,4 +1,4 @@
--- The lock code in the state against the keys typed: what the program compares there, as cases of the definitions. Assumes nothing.
+-- The lock code in the state against the keys typed, as cases of the definitions. Assumes nothing.
 use Prim.Native.Nat.{ℕ, suc, ◌+◌, ◌-◌, ◌≤◌, ◌<◌}
 use mathlib.Core.Path.{◌≡◌, refl, sym, ap, ◌∙◌, subst}
 use mathlib.Core.Bool.{Bool, true, false, cond, ◌&&◌, and-false}
@@ -26,7 +26,7 @@ module _ (s : List ℕ) where
     unfolding longest
     longest-end = rw none
 
-  -- two beginnings, the first `by` bytes longer, are compared from their ends down
+  -- two beginnings, the first `by` bytes longer: whether one ends with the other, by their last bytes and by what stands before these
   module _ (by n : ℕ) (some : 0 < n) (most : by + n ≤ length code) where
     repeats-next : end_with (begun code (by + n)) (take n code)
         ≡ (eqb (get_or s (12 + (by + (n - 1))) 0) (get_or s (12 + (n - 1)) 0) && end_with (begun code (by + (n - 1))) (take (n - 1) code))
