@@ -3,7 +3,6 @@
 // nine bytes, with the number of the device and 0 for no frame: so its lines are six bytes as they stand in it, and the contract is one equation.
 ghost use Rattle.std.specs.Prelude.{◌≡◌, ℕ, List, false};
 ghost use Rattle.refusals.specs.Numbers.{outcome};
-ghost use Rattle.translation.specs.Bits.{weight};
 ghost use Rattle.machine.specs.Lines.{at_mode};
 ghost use Rattle.machine.specs.Events as events;
 ghost use Rattle.machine.specs.Events.{event};
@@ -24,6 +23,7 @@ use refusals::refusal::Refusal;
 use state::event::{Kind, Value};
 use state::state::{SENT, SENT_TO, State};
 use state::told::Told;
+use translation::bits::weight;
 use translation::frames::frame_of;
 
 // A read of 64h. The byte that it gives is left to the lines, which have it.
@@ -59,6 +59,7 @@ fn sent_frame(s: &State) -> u16
 }
 
 // The last six bytes of an answer: the lines as they are now, in either mode; the pulse mask is the event's own.
+#[inline(always)]
 #[tactic(auto, unfolding(machine::specs::Events::lines))]
 pub(crate) fn lines(s: &State, pulse: u8) -> [u8; 6]
     ensures { result ≡ events.lines (public s.now) pulse }
@@ -67,20 +68,25 @@ pub(crate) fn lines(s: &State, pulse: u8) -> [u8; 6]
     [status(s), output_port(s), pulse, s[SENT_TO], low, high]
 }
 
-// The same in PS/2 mode, with fewer tests: IBF is 1 exactly where there is a frame to show.
+// The same in PS/2 mode, with fewer tests.
+#[inline(always)]
 fn ps2_lines(s: &State, pulse: u8) -> [u8; 6]
     requires { at_mode (public s.now) ≡ false }
     ensures { result ≡ events.lines (public s.now) pulse }
 {
     let shown = ps2_shown(s);
-    if input_full(s) {
-        let [low, high] = frame_of(s[SENT]).to_le_bytes();
-        [shown.status + 2, shown.port, pulse, s[SENT_TO], low, high]
-    } else {
-        [shown.status, shown.port, pulse, 0, 0, 0]
-    }
+    let [low, high] = sent_frame(s).to_le_bytes();
+    [
+        shown.status + weight(2, input_full(s)),
+        shown.port,
+        pulse,
+        s[SENT_TO],
+        low,
+        high,
+    ]
 }
 
+#[inline(always)]
 fn lines_by_mode(s: &State, pulse: u8) -> [u8; 6]
     ensures { result ≡ events.lines (public s.now) pulse }
 {
@@ -91,41 +97,28 @@ fn lines_by_mode(s: &State, pulse: u8) -> [u8; 6]
     }
 }
 
-// The number of the check that refuses the event, 0 for none, and what the event tells, which is nothing where it is refused.
-fn numbered(answer: Result<Told, Refusal>) -> (u8, Told)
-    ensures { own answer ≡ record { refusal = result.0; read = result.1.read; old = weight 1 result.1.old; pulse = result.1.pulse } }
-{
-    match answer {
-        Ok(told) => (0, told),
-        Err(refusal) => (refusal.into(), Told::default()),
-    }
-}
-
 // The kind of a read of 64h.
 const READ_STATUS: u8 = 2;
 
-// One event from any state, and its answer. The lines are asked for once: so they are a part of this function, and no call.
-pub(crate) fn respond(s: &mut State, kind: u8, value: Value) -> [u8; 9]
-    ensures { EventReplied s.old (event kind value.low value.high) s.new result }
+// One event from any state, and its answer. What a refused event tells is its check alone.
+pub(crate) fn respond(s: &mut State, kind: u8, value: Value, answer: &mut [u8; 9])
+    ensures { EventReplied s.old (event kind value.low value.high) s.new answer.new }
 {
-    let (number, told) = numbered(act(s, kind, value));
-    let [status, port, pulse, to, low, high] = lines_by_mode(s, told.pulse);
-    let read = if (kind == READ_STATUS) & (number == 0) {
-        status
-    } else {
-        told.read
-    };
-    [
-        number,
-        read,
-        told.old as u8,
-        status,
-        port,
-        pulse,
-        to,
-        low,
-        high,
-    ]
+    match act(s, kind, value) {
+        Ok(told) => {
+            let [status, port, pulse, to, low, high] = lines_by_mode(s, told.pulse);
+            let read = if kind == READ_STATUS {
+                status
+            } else {
+                told.read
+            };
+            *answer = [0, read, told.old as u8, status, port, pulse, to, low, high];
+        }
+        Err(refusal) => {
+            let [status, port, pulse, to, low, high] = lines_by_mode(s, 0);
+            *answer = [refusal.into(), 0, 0, status, port, pulse, to, low, high];
+        }
+    }
 }
 
 // The byte being sent; a state that keeps the body rules has 0 here with nobody.

@@ -33,7 +33,9 @@ fn run_one(s: &mut State, list: &[u8], answers: &mut [u8])
         low: list[1],
         high: list[2],
     };
-    answers[..9].copy_from_slice(&respond(s, list[0], value));
+    if let Some(answer) = answers.first_chunk_mut() {
+        respond(s, list[0], value, answer);
+    }
 }
 
 // Four events make a level of the recursion, so that its test and its call cost each of them a quarter. One function for all four would test at each event,
@@ -117,7 +119,7 @@ pub fn run_fitting(s: &mut State, list: &[u8], answers: &mut [u8])
 pub fn event(s: &mut State, kind: u8, value: Value, answer: &mut [u8; 9])
     ensures { EventAnswered s.old (events.event kind value.low value.high) s.new answer.new }
 {
-    *answer = respond(s, kind, value);
+    respond(s, kind, value, answer);
 }
 
 // What the lines show with no event.

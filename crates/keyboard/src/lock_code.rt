@@ -15,11 +15,14 @@ pub fn ignored(s: &State, x: u8) -> bool
     (x / 128 % 2 == 1) | ((x == cell(s, 0x16)) | (x == cell(s, 0x17)))
 }
 
-// The code's first k bytes end with its first n.
+// The code's first k bytes end with its first n. Most that do not differ in the last byte already, which costs no call.
 fn repeats(s: &State, k: usize, n: usize) -> bool
     requires { (n ≤ k) × (k ≤ length (code_of s.now)) × (k ≤ 16) }
     ensures { let code = code_of s.now in result ≡ lock.end_with (lock.begun code k) (take n code) }
 {
+    if 0 < n && s[CODE + (n - 1)] != s[CODE + (k - 1)] {
+        return false;
+    }
     s[CODE..CODE + k].ends_with(&s[CODE..CODE + n])
 }
 

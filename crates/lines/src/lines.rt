@@ -248,6 +248,7 @@ pub struct Shown {
 }
 
 // Status without IBF, and output port, in PS/2 mode: by cases of what the output buffer holds, so that no line is asked for twice.
+#[inline(always)]
 pub fn ps2_shown(s: &State) -> Shown
     ensures { let p = public s.now in (lines.at_mode p ≡ false → (result.status + bits.weight 2 (lines.input_full p) ≡ lines.status p) × (result.port ≡ lines.output_port p)) × (result.status ≤ 253) }
 {

@@ -1,5 +1,5 @@
 // What a run leaves, printed: its refusal, and its answers.
-use crate::print::Hex;
+use crate::print::{Hex, line};
 use refusals::refusal::{Refusal, number_of};
 use std::io;
 use std::io::Write;
@@ -11,14 +11,12 @@ pub type Answer = [u8; 9];
 pub type Space = [Answer; 7003];
 
 // What the space holds before a run.
-const MARK: u8 = 0xA5;
-
-pub const MARKED: Space = [[MARK; 9]; 7003];
+pub const MARK: u8 = 0xA5;
 
 // A line for each.
 pub fn put_answers<W: Write>(out: &mut W, answers: &[Answer]) -> io::Result<()> {
     for answer in answers {
-        writeln!(out, "{}", Hex(answer))?;
+        out.write_all(&line(answer))?;
     }
     Ok(())
 }

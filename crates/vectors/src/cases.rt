@@ -1,6 +1,7 @@
 // The cases of the lists, read from standard input. How they are written is said there.
-use crate::answers::{MARKED, put_answers, put_outcome, put_refusal};
+use crate::answers::{MARK, Space, put_answers, put_outcome, put_refusal};
 use crate::lists::List;
+use crate::sample::PLAIN;
 use crate::text::{Malformed, counted, cut, decimal, fill};
 use controller::run::run_with_table;
 use refusals::refusal::Refusal;
@@ -40,16 +41,11 @@ struct Case {
 }
 
 impl Case {
-    // What a case has until it says otherwise.
-    fn ordinary() -> Case {
-        Case {
-            setup: Setup {
-                options: 0,
-                version: 0,
-            },
-            table: built_in(),
-            list: List::new(),
-        }
+    // What a case has until it says otherwise. The list is cleared in its place: to make one anew costs as much as all that a short case does.
+    fn restart(&mut self) {
+        self.setup = PLAIN;
+        self.table = built_in();
+        self.list.clear();
     }
 
     // The options byte and the version byte. A malformed text gives those that it has.
@@ -75,10 +71,11 @@ impl Case {
         run_with_table(self.setup, &self.table, list, answers)
     }
 
-    // The case's own list, and each answer.
+    // The case's own list, and each answer. A call of its own, as below, so that the space is on the stack while a list is run and no longer.
+    #[inline(never)]
     fn run<W: Write>(&self, out: &mut W) -> io::Result<()> {
         let list = self.list.events();
-        let mut space = MARKED;
+        let mut space: Space = [[MARK; 9]; 7003];
         let outcome = self.answer(list, space.as_flattened_mut());
         if outcome.is_err() {
             put_refusal(out, outcome)?;
@@ -89,16 +86,17 @@ impl Case {
     }
 
     // The list over and over: that many bytes of it, with that much space for the answers.
-    fn repeat<W: Write>(&self, out: &mut W, text: &[u8]) -> Result<(), Trouble> {
+    #[inline(never)]
+    fn repeat<W: Write>(&mut self, out: &mut W, text: &[u8]) -> Result<(), Trouble> {
         let (bytes, room) = cut(text);
         let bytes = decimal(bytes)?;
         let room = decimal(room)?;
         if self.list.events().is_empty() {
             return Err(Trouble::Malformed);
         }
-        let whole = self.list.repeated();
-        let list = whole.get(..bytes).ok_or(Malformed)?;
-        let mut space = MARKED;
+        self.list.repeat();
+        let list = self.list.whole().get(..bytes).ok_or(Malformed)?;
+        let mut space: Space = [[MARK; 9]; 7003];
         let lent = space.as_flattened_mut().get_mut(..room).ok_or(Malformed)?;
         let outcome = self.answer(list, lent);
         let events = if outcome.is_ok() { list.len() / 3 } else { 0 };
@@ -124,7 +122,7 @@ impl Case {
             // An empty line and one that is there for the reader.
             b"" | b"#" => {}
             b"name" => {
-                *self = Case::ordinary();
+                self.restart();
                 out.write_all(rest)?;
             }
             b"start" => self.start(rest)?,
@@ -157,7 +155,13 @@ pub fn run_all<W: Write>(out: &mut W, text: &[u8]) -> io::Result<()> {
     if text.len() == READ_MOST {
         writeln!(out, "more cases than fit")?;
     }
-    let mut case = Case::ordinary();
+    // Of zeros, which are made in their place: a case that a call hands back would stand on the stack twice.
+    let mut case = Case {
+        setup: PLAIN,
+        table: [0; 256],
+        list: List::new(),
+    };
+    case.restart();
     for line in text.split(|byte| *byte == b'\n') {
         case.carry_out(out, line)?;
     }

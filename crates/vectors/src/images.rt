@@ -96,6 +96,8 @@ fn try_codes<W: Write>(out: &mut W) -> io::Result<()> {
     try_load(out, "code seventeen", &most.with(10, 17).summed().0)
 }
 
+// A call of its own: what it needs of the stack is not there while lists are run.
+#[inline(never)]
 pub fn try_all<W: Write>(out: &mut W) -> io::Result<()> {
     try_saves(out)?;
     let image = Image::of(&sample(3));

@@ -21,6 +21,11 @@ impl List {
         }
     }
 
+    // No events. The bytes behind those that count stay: they are written before they are read.
+    pub fn clear(&mut self) {
+        self.filled = 0;
+    }
+
     pub fn events(&self) -> &[u8]
         ensures { length result.now ≤ 21003 }
     {
@@ -34,12 +39,16 @@ impl List {
         Ok(())
     }
 
-    // The events over and over.
-    pub fn repeated(&self) -> [u8; LIST_SIZE] {
-        let mut whole = [0; LIST_SIZE];
-        for (byte, event) in whole.iter_mut().zip(self.events().iter().cycle()) {
-            *byte = *event;
+    // The events over and over, to the end of the buffer: each byte is read where it was just written. Those that count stay as many as they are.
+    pub fn repeat(&mut self) {
+        let filled = self.filled;
+        for at in filled..LIST_SIZE {
+            self.bytes[at] = self.bytes[at - filled];
         }
-        whole
+    }
+
+    // All of the buffer.
+    pub fn whole(&self) -> &[u8; LIST_SIZE] {
+        &self.bytes
     }
 }

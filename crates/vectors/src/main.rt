@@ -2,6 +2,8 @@
 // and images at their edges.
 #![tactic(auto)]
 
+ghost use Rattle.std.specs.Prelude.{◌≤◌, length, IfOk};
+
 mod answers;
 mod bodies;
 mod cases;
@@ -17,11 +19,19 @@ use cases::READ_MOST;
 use reading::read_full;
 use std::io;
 
+// What standard input gives. The reader's own buffer is let go with this call.
+#[inline(never)]
+fn read_text(rt: &HostRuntime, text: &mut [u8]) -> io::Result<usize>
+    ensures { IfOk result (λ n. n ≤ length text.new) }
+{
+    read_full(&mut rt.reader(), text)
+}
+
 fn main(rt: HostRuntime) -> io::Result<()> {
     let mut out = io::writer(&rt);
     frames::put_all(&mut out)?;
     let mut text = [0u8; READ_MOST];
-    let got = read_full(&mut rt.reader(), &mut text)?;
+    let got = read_text(&rt, &mut text)?;
     cases::run_all(&mut out, &text[..got])?;
     images::try_all(&mut out)
 }

@@ -1,4 +1,5 @@
 // Bytes as the program prints them.
+use printing::hex::two_digits;
 use std::fmt;
 
 // In hexadecimal, two digits each, with a space between two bytes.
@@ -16,4 +17,15 @@ impl fmt::Display for Hex<'_> {
         }
         Ok(())
     }
+}
+
+// Nine bytes so printed, as a line. It is made before it is written, so that it costs one write and not one for each byte.
+pub fn line(bytes: &[u8; 9]) -> [u8; 27] {
+    let mut text = [b' '; 27];
+    for (i, byte) in bytes.iter().enumerate() {
+        let at = 3 * i;
+        text[at..at + 2].copy_from_slice(&two_digits(*byte));
+    }
+    text[26] = b'\n';
+    text
 }

@@ -1,27 +1,24 @@
 -- From what an event told to its nine bytes. Assumes nothing.
 use Prim.Native.Nat.{ℕ, ◌+◌, ◌/◌, ◌%◌}
-use native.Mathlib.Omega.{arith}
 use mathlib.Core.Path.{◌≡◌, refl, ap, sym, subst, ◌∙◌}
-use mathlib.Core.Bool.{cond, ◌&&◌, Bool, true, false, and-false, true≢false}
+use mathlib.Core.Bool.{cond, ◌&&◌, Bool, true, false, and-true, and-false}
 use mathlib.Core.List.{List, [], ◌∷◌}
 use lib.Dec.{eqb}
-use borrow.Author.Tests.{eqb-true, ne_eqb}
+use borrow.Author.Tests.{ne_eqb}
 use lib.ListN.{get_or}
 use mir.Val.{bool_byte}
-use Rattle.std.specs.Prelude.{Result, Ok}
+use Rattle.std.specs.Prelude.{Result, Ok, Err}
 use Rattle.std.specs.Result.{IsErrAnd}
 use Rattle.refusals.specs.declared.refusal.Refusal.{Refusal}
 use Rattle.refusals.specs.Numbers.{number}
 use Rattle.refusals.proofs.Refused.{no_zero, passed_on}
 use Rattle.machine.specs.State.{Public}
 use Rattle.translation.specs.Bits.{weight}
-use Rattle.translation.specs.Frames.{frame}
 use Rattle.machine.specs.Lines.{status, output_port, input_full}
 use Rattle.machine.specs.Events.{Event, event, lines, refusal, sent_frame}
 use Rattle.state.specs.View.{public}
 use Rattle.state.specs.Told.{Own, own, EventTold}
 use Rattle.state.specs.declared.told.Told.{Told}
-use Rattle.translation.proofs.Tests.{split}
 use Rattle.machine.proofs.Laws.Events.{accept-status}
 use Rattle.state.proofs.Laws.Changed.{untouched}
 use Rattle.state.proofs.Laws.Told.{Quiet, told_accepted, told_refused}
@@ -29,27 +26,13 @@ use Rattle.controller.specs.Steps.{EventReplied, with_status}
 
 -- ---- the lines in PS/2 mode
 -- from the status without IBF
-module _ (p : Public) (n : ℕ) {port pulsed : ℕ} {full : Bool} (is_status : n + weight 2 (input_full p) ≡ status p) (is_port : port ≡ output_port p)
-    (is_full : full ≡ input_full p) where
-  pub shown-sending : {f low high : ℕ} → full ≡ true → f ≡ frame p.sending.byte → low ≡ f % 256 → high ≡ f / 256 →
-      ((n + 2) ∷ port ∷ pulsed ∷ p.sending.to ∷ low ∷ high ∷ []) ≡ lines p pulsed
-  unfolding lines
-  shown-sending {f} stands framed is_low is_high =
-      let on : input_full p ≡ true = sym is_full ∙ stands in
-      let sum : n + 2 ≡ status p = ap (λ (b : Bool). n + weight 2 b) (sym on) ∙ is_status in
-      let sent : f ≡ sent_frame p = framed ∙ simp on in
-      rw (is_low, is_high, sent, is_port, sum) refl
-
-  pub shown-idle : full ≡ false → (n ∷ port ∷ pulsed ∷ 0 ∷ 0 ∷ 0 ∷ []) ≡ lines p pulsed
-  unfolding lines
-  shown-idle none =
-      let off : input_full p ≡ false = sym is_full ∙ none in
-      let bare : n + 0 ≡ status p = ap (λ (b : Bool). n + weight 2 b) (sym off) ∙ is_status in
-      let sum : n ≡ status p = omega (arith, bare) in
-      let nobody : 0 ≡ p.sending.to =
-      split (eqb p.sending.to 0) (λ yes. sym (eqb-true p.sending.to 0 yes)) (λ no. absurd (true≢false (simp no at off))) in
-      let nothing : 0 ≡ sent_frame p = simp off in
-      λ i. sum i ∷ is_port i ∷ pulsed ∷ nobody i ∷ nothing i % 256 ∷ nothing i / 256 ∷ []
+pub shown : (p : Public) (n : ℕ) {more port pulsed frame low high : ℕ} {full : Bool} → n + weight 2 (input_full p) ≡ status p → port ≡ output_port p →
+    more ≡ weight 2 full → full ≡ input_full p → frame ≡ sent_frame p → low ≡ frame % 256 → high ≡ frame / 256 →
+    ((n + more) ∷ port ∷ pulsed ∷ p.sending.to ∷ low ∷ high ∷ []) ≡ lines p pulsed
+unfolding lines
+shown p n {more} is_status is_port is_more is_full is_frame is_low is_high =
+    let sum : n + more ≡ status p = ap (λ (m : ℕ). n + m) (is_more ∙ ap (weight 2) is_full) ∙ is_status in
+    rw (is_low, is_high, is_frame, is_port, sum) refl
 
 -- ---- with_status
 -- an event that is no read of 64h
@@ -100,3 +83,18 @@ module _ {s s' : List ℕ} {e : Event} {a : Own} {l : List ℕ} (kind number : �
   replied_event reads =
       replied (subst (λ (b : Own). EventTold s e s' (with_status kind (public s') b)) same told) shown refl
       (reads ∙ ap (λ (xs : List ℕ). cond (eqb kind 2 && eqb number 0) (get_or xs 0 0) t.read) shown) (byte_weight t.old)
+
+-- an accepted event
+pub replied_accepted : {s s' : List ℕ} {e : Event} {l : List ℕ} {read : ℕ} (kind : ℕ) (t : Told) (r : Result Told Refusal) →
+    EventTold s e s' (with_status kind (public s') (own r)) → r ≡ Ok t → l ≡ lines (public s') t.pulse → read ≡ cond (eqb kind 2) (get_or l 0 0) t.read →
+    EventReplied s e s' (0 ∷ read ∷ bool_byte t.old ∷ get_or l 0 0 ∷ get_or l 1 0 ∷ get_or l 2 0 ∷ get_or l 3 0 ∷ get_or l 4 0 ∷ get_or l 5 0 ∷ [])
+replied_accepted {l = l} kind t r told is shown reads =
+    replied_event kind 0 t told (ap own is) shown (reads ∙ ap (λ (b : Bool). cond b (get_or l 0 0) t.read) (sym (and-true (eqb kind 2))))
+
+-- a refused event: what it tells is the number of its check
+pub replied_refused : {s s' : List ℕ} {e : Event} {l : List ℕ} {n : ℕ} (kind : ℕ) (x : Refusal) (r : Result Told Refusal) →
+    EventTold s e s' (with_status kind (public s') (own r)) → r ≡ Err x → n ≡ number x → l ≡ lines (public s') 0 →
+    EventReplied s e s' (n ∷ 0 ∷ 0 ∷ get_or l 0 0 ∷ get_or l 1 0 ∷ get_or l 2 0 ∷ get_or l 3 0 ∷ get_or l 4 0 ∷ get_or l 5 0 ∷ [])
+replied_refused {s} {s'} {e} kind x r told is is_number shown =
+    let same : with_status kind (public s') (own r) ≡ own (Err x) = rw (is, ne_eqb (number x) 0 (no_zero x), and-false) refl in
+    replied (subst (λ (t : Own). EventTold s e s' t) same told) shown is_number refl refl

@@ -1,4 +1,5 @@
--- `keyboard::lock_code::repeats` meets its contract. Both beginnings are compared pair by pair, which the definition does from their ends.
+-- `keyboard::lock_code::repeats` meets its contract. Both beginnings are compared by their last bytes and then pair by pair, which the definition does
+-- from their ends.
 -- Assumes nothing.
 use Prim.Native.Nat.{ℕ, zero, suc, ◌+◌, ◌-◌, ◌≤◌, ◌<◌, min}
 use mathlib.Core.Path.{◌≡◌, ap, sym, ◌∙◌}
@@ -16,6 +17,7 @@ use Rattle.translation.proofs.Tests.{split}
 use Rattle.machine.specs.Lock.{end_with, begun}
 use Rattle.machine.proofs.Laws.Lock.{ends-none, ends_next, begun-next}
 use Rattle.state.specs.View.{code_of}
+use Rattle.state.proofs.Laws.Lock.{repeats-not}
 use Rattle.keyboard.proofs.lock_code.repeats.Goals as goal
 
 eqb_turned : (x y : ℕ) → eqb x y ≡ eqb y x
@@ -59,6 +61,17 @@ stored s k most =
     let within : k ≤ min (get_or s 10 0) (min 16 (length (drop 12 s))) = simp length-take at most in
     ap (λ (n : ℕ). take n (drop 12 s)) (omega arith)
     ∙ sym (take-take k (get_or s 10 0) (take 16 (drop 12 s)) (omega arith) ∙ take-take k 16 (drop 12 s) (omega arith))
+
+pub returns-then-s-n : goal.returns-then-s-n
+returns-then-s-n c =
+    let args = c.args in
+    let s = args.s.now in
+    let code = code_of s in
+    let (less, most, _) = c.requires in
+    let whole : args.k - args.n + args.n ≡ args.k = omega arith in
+    let last : 12 + (args.k - args.n + (args.n - 1)) ≡ 12 + (args.k - 1) = omega (arith, c.if-n-gt0.true) in
+    repeats-not s (args.k - args.n) args.n c.if-n-gt0.true (omega arith) (λ e. c.if-s-n.true (e ∙ ap (λ (at : ℕ). get_or s at 0) last))
+    ∙ ap (λ (m : ℕ). end_with (begun code m) (take args.n code)) whole
 
 pub returns : goal.returns
 returns c =
