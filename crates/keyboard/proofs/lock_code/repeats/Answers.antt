@@ -3,7 +3,7 @@
 -- Assumes nothing.
 use Prim.Native.Nat.{ℕ, zero, suc, ◌+◌, ◌-◌, ◌≤◌, ◌<◌, min}
 use mathlib.Core.Path.{◌≡◌, ap, sym, ◌∙◌}
-use mathlib.Core.Bool.{true, ◌&&◌, and-false}
+use mathlib.Core.Bool.{true, false, ◌&&◌, and-false}
 use mathlib.Core.List.{List, [], ◌∷◌, ◌++◌}
 use native.Mathlib.Omega.{arith}
 use lib.Dec.{eqb}
@@ -62,16 +62,18 @@ stored s k most =
     ap (λ (n : ℕ). take n (drop 12 s)) (omega arith)
     ∙ sym (take-take k (get_or s 10 0) (take 16 (drop 12 s)) (omega arith) ∙ take-take k 16 (drop 12 s) (omega arith))
 
-pub returns-then-s-n : goal.returns-then-s-n
-returns-then-s-n c =
-    let args = c.args in
-    let s = args.s.now in
+-- two beginnings whose last bytes differ
+differ : (s : List ℕ) (k n : ℕ) → n ≤ k → k ≤ length (code_of s) → 0 < n → (get_or s (12 + (n - 1)) 0 ≡ get_or s (12 + (k - 1)) 0 → ⊥) →
+    false ≡ end_with (begun (code_of s) k) (take n (code_of s))
+differ s k n less most some other =
     let code = code_of s in
-    let (less, most, _) = c.requires in
-    let whole : args.k - args.n + args.n ≡ args.k = omega arith in
-    let last : 12 + (args.k - args.n + (args.n - 1)) ≡ 12 + (args.k - 1) = omega (arith, c.if-n-gt0.true) in
-    repeats-not s (args.k - args.n) args.n c.if-n-gt0.true (omega arith) (λ e. c.if-s-n.true (e ∙ ap (λ (at : ℕ). get_or s at 0) last))
-    ∙ ap (λ (m : ℕ). end_with (begun code m) (take args.n code)) whole
+    let whole : k - n + n ≡ k = omega arith in
+    let last : 12 + (k - n + (n - 1)) ≡ 12 + (k - 1) = omega arith in
+    repeats-not s (k - n) n some (omega arith) (λ e. other (e ∙ ap (λ (at : ℕ). get_or s at 0) last))
+    ∙ ap (λ (m : ℕ). end_with (begun code m) (take n code)) whole
+
+pub returns-then-s-n : goal.returns-then-s-n
+returns-then-s-n c = differ c.args.s.now c.args.k c.args.n c.requires.0 c.requires.1 c.if-n-gt0.true c.if-s-n.true
 
 pub returns : goal.returns
 returns c =
